@@ -1,0 +1,9 @@
+pub mod Value
+pub mod Low
+pub mod Flip
+pub mod Least
+pub mod Shortest
+pub mod Inside
+pub mod Over
+pub mod Single
+pub mod Examples

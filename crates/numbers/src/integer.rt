@@ -1,0 +1,108 @@
+// Integers by the length of their content: read, and how long their content is at the least.
+ghost use mathlib.Core.Path.{_≡_};
+ghost use Prim.Native.Nat.{_*_, _^_, _<_, _≤_};
+ghost use lib.Signed.{mag};
+ghost use Rattle.numbers.specs.Integer.{twosComplement, unsignedLength, signedLength};
+ghost use Rattle.numbers.specs.Reading.{contentFrom, unsignedFrom, signedFrom, paperSlice, paperUnsigned, paperSigned};
+use crate::reading::SliceRead;
+use crate::reading::UnsignedRead;
+use crate::reading::read_slice;
+use crate::reading::whole;
+use types::Refusal;
+
+// A signed number and the place after it.
+pub enum SignedRead {
+    Signed(i64, usize),
+    Refused(Refusal),
+}
+
+// Where an integer's content of 1 to 8 bytes lies.
+fn content(len: u32, buf: &[u8], place: usize) -> SliceRead
+    ensures { λ r. ⌜ paperSlice r ≡ contentFrom len (now (buf .entry)) place ⌝ }
+{
+    if 65535 < buf.len() {
+        return SliceRead::Refused(Refusal::BufferTooLong(buf.len()));
+    }
+    if buf.len() < place {
+        return SliceRead::Refused(Refusal::PlacePastEnd(place));
+    }
+    if len < 1 {
+        return SliceRead::Refused(Refusal::LengthNotAllowed(len));
+    }
+    if 8 < len {
+        return SliceRead::Refused(Refusal::LengthNotAllowed(len));
+    }
+    read_slice(len, buf, place)
+}
+
+// The unsigned integer whose content has this length.
+pub fn decode_unsigned(len: u32, buf: &[u8], place: usize) -> UnsignedRead
+    ensures { λ r. ⌜ paperUnsigned r ≡ unsignedFrom len (now (buf .entry)) place ⌝ }
+{
+    match content(len, buf, place) {
+        SliceRead::Slice {
+            start,
+            len: n,
+            next,
+        } => UnsignedRead::Unsigned(whole(buf, start, n as usize), next),
+        SliceRead::Refused(r) => UnsignedRead::Refused(r),
+    }
+}
+
+// The signed integer whose content has this length.
+pub fn decode_signed(len: u32, buf: &[u8], place: usize) -> SignedRead
+    ensures { λ r. ⌜ paperSigned r ≡ signedFrom len (now (buf .entry)) place ⌝ }
+{
+    match content(len, buf, place) {
+        SliceRead::Slice {
+            start,
+            len: n,
+            next,
+        } => { SignedRead::Signed(signed(whole(buf, start, n as usize), n), next) }
+        SliceRead::Refused(r) => SignedRead::Refused(r),
+    }
+}
+
+// The number that bytes hold in two's complement, from the unsigned one that they hold.
+fn signed(unsigned: u64, count: u32) -> i64
+    requires { ⌜ (0 < count) × (count < 9) × (unsigned < 256 ^ count) ⌝ }
+    ensures { λ r. ⌜ r ≡ twosComplement count unsigned ⌝ }
+{
+    let half = 1u64 << (8 * count - 1);
+    if unsigned < half {
+        unsigned as i64
+    } else {
+        -1 - ((half - 1 + half - unsigned) as i64)
+    }
+}
+
+// The least number of bytes that holds an unsigned integer.
+pub fn unsigned_length(value: u64) -> usize
+    ensures { λ r. ⌜ r ≡ unsignedLength value ⌝ }
+    ensures { λ r. ⌜ (0 < r) × (r < 9) ⌝ }
+{
+    if value == 0 {
+        return 1;
+    }
+    8 - (u64::leading_zeros(value) / 8) as usize
+}
+
+// The least number of bytes that holds a signed integer in two's complement.
+pub fn signed_length(value: i64) -> usize
+    ensures { λ r. ⌜ r ≡ signedLength value ⌝ }
+    ensures { λ r. ⌜ (0 < r) × (r < 9) ⌝ }
+{
+    unsigned_length(magnitude(value) * 2)
+}
+
+// A signed integer, or one less than its magnitude where it is negative.
+pub(crate) fn magnitude(value: i64) -> u64
+    ensures { λ r. ⌜ r ≡ mag value ⌝ }
+    ensures { λ r. ⌜ r < 2 ^ 63 ⌝ }
+{
+    if value < 0 {
+        (-1 - value) as u64
+    } else {
+        value as u64
+    }
+}

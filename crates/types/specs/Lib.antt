@@ -1,0 +1,5 @@
+pub mod Choice
+pub mod Tag
+pub mod Refusal
+pub mod Answer
+pub mod Writing
