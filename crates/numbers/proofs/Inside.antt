@@ -9,7 +9,8 @@ use lib.Dec.{ltb}
 use borrow.Author.Tests.{ltb-false}
 use Rattle.types.specs.Refusal.{amount}
 use Rattle.types.specs.Answer.{Answer, accepted, refused, guarded}
-use Rattle.types.specs.Writing.{can, writeAnswer}
+use Rattle.types.specs.Choice.{if}
+use Rattle.types.specs.Writing.{Writable, can, cannot, unless, writeAnswer}
 use Rattle.types.proofs.Choices.{either}
 use Rattle.numbers.specs.Integer.{unsignedValue}
 use Rattle.numbers.specs.Reading.{Part, partAt, sliceFrom, fixedFrom, contentFrom}
@@ -56,15 +57,18 @@ content-held n xs place =
     either (Held n xs place) (ltb 8 n) (λ h. tt) (λ h.
     held n xs place (omega (arith, ltb-false n 1 g)) (omega (arith, ltb-false 8 n h)) (sliceFrom n xs place) (slice-inside n xs place)))))
 
--- a write of n bytes that is accepted ends inside the buffer
+-- a write of n bytes that is accepted ends inside the buffer, which is not too long
 abbrev pub Room : ℕ → List ℕ → ℕ → Answer (Unit {0}) → Type 0
-Room n xs place (accepted u next) = (next ≡ place + n) × (place + n ≤ length xs)
+Room n xs place (accepted u next) = (next ≡ place + n) × (place + n ≤ length xs) × (length xs ≤ 65535)
 Room n xs place (refused k c) = Unit {0}
 
-pub write-room : (lent n : ℕ) (xs : List ℕ) (place : ℕ) → Room n xs place (writeAnswer lent can n xs place)
+pub write-room : (lent : ℕ) (w : Writable) (n : ℕ) (xs : List ℕ) (place : ℕ) → Room n xs place (writeAnswer lent w n xs place)
 unfolding writeAnswer
-write-room lent n xs place =
+write-room lent w n xs place =
     either (Room n xs place) (ltb 65535 (length xs)) (λ e. tt) (λ e.
     either (Room n xs place) (ltb 65535 lent) (λ f. tt) (λ f.
-    either (Room n xs place) (ltb (length xs) place) (λ g. tt) (λ g.
-    either (Room n xs place) (ltb (length xs) (place + n)) (λ h. tt) (λ h. (refl, ltb-false (length xs) (place + n) h)))))
+    either (Room n xs place) (ltb (length xs) place) (λ g. tt) (λ g. go w (ltb-false 65535 (length xs) e))))
+  where
+    go : (w : Writable) → length xs ≤ 65535 → Room n xs place (unless w (if (ltb (length xs) (place + n)) (refused 13 (amount n)) (accepted tt (place + n))))
+    go can small = either (Room n xs place) (ltb (length xs) (place + n)) (λ h. tt) (λ h. (refl, ltb-false (length xs) (place + n) h, small))
+    go (cannot k c) small = tt

@@ -6,7 +6,7 @@ use lib.Dec.{eqb}
 use Rattle.types.specs.Choice.{if}
 use Rattle.types.specs.Tag.{Number, application, context, opening, closing, Tag, applicationOf, numberOf, tagOf}
 use Rattle.types.specs.Refusal.{Carried, amount, tagFound, Row, row, table}
-use Rattle.types.specs.Answer.{Answer, accepted, refused, refusal}
+use Rattle.types.specs.Answer.{Answer, accepted, refused, refusal, Outcome, passed, stopped, paperOutcome}
 use Rattle.types.specs.Writing.{paperWritten}
 use Rattle.types.specs.declared.tag.ApplicationTagNumber.{ApplicationTagNumber}
 use Rattle.types.specs.declared.tag.ApplicationTagNumber.the-variants as a
@@ -15,6 +15,8 @@ use Rattle.types.specs.declared.tag.TagNumber.the-variants as n
 use Rattle.types.specs.declared.tag.Tag as program
 use Rattle.types.specs.declared.refusal.Refusal.{Refusal}
 use Rattle.types.specs.declared.refusal.Refusal.the-variants as r
+use Rattle.types.specs.declared.outcome.Outcome as program-outcome
+use Rattle.types.specs.declared.outcome.Outcome.the-variants as o
 use Rattle.types.specs.declared.written.Written.{Written}
 use Rattle.types.specs.declared.written.Written.the-variants as w
 
@@ -125,3 +127,15 @@ written-back (w.Refused x) = ap w.Refused (refusal-back x)
 -- no two answers of a writer are the same on paper
 pub single-written : (x y : Written) → paperWritten x ≡ paperWritten y → x ≡ y
 single-written = told-apart paperWritten written written-back
+
+abbrev outcome : Outcome → program-outcome.Outcome
+outcome passed = o.Passed
+outcome (stopped k c) = o.Refused (programRefusal (row k c))
+
+outcome-back : (x : program-outcome.Outcome) → outcome (paperOutcome x) ≡ x
+outcome-back o.Passed = refl
+outcome-back (o.Refused x) = ap o.Refused (refusal-back x)
+
+-- no two outcomes are the same on paper
+pub single-outcome : (x y : program-outcome.Outcome) → paperOutcome x ≡ paperOutcome y → x ≡ y
+single-outcome = told-apart paperOutcome outcome outcome-back

@@ -1,4 +1,4 @@
--- What a reader answers, on paper: a value with the place after it, or a refusal's number with what it carries.
+-- What a reader or a check answers, on paper: a value with the place after it, or a refusal's number with what it carries.
 -- Assumes nothing.
 use Prim.Native.Nat.{ℕ}
 use mathlib.Core.List.{List}
@@ -7,6 +7,8 @@ use lib.Dec.{ltb}
 use Rattle.types.specs.Choice.{if}
 use Rattle.types.specs.Refusal.{Carried, amount, table}
 use Rattle.types.specs.declared.refusal.Refusal.{Refusal}
+use Rattle.types.specs.declared.outcome.Outcome as program
+use Rattle.types.specs.declared.outcome.Outcome.the-variants as o
 
 pub data Answer (A : Type 0) : Type 0 where
   accepted : A → ℕ → Answer A
@@ -26,3 +28,12 @@ abbrev pub guarded : {A : Type 0} → List ℕ → ℕ → Answer A → Answer A
 guarded xs place a =
     if (ltb 65535 (length xs)) (refused 1 (amount (length xs)))
     (if (ltb (length xs) place) (refused 2 (amount place)) a)
+
+-- a check passes, or stops with a refusal's number and what it carries
+pub data Outcome : Type 0 where
+  passed : Outcome
+  stopped : ℕ → Carried → Outcome
+
+abbrev pub paperOutcome : program.Outcome → Outcome
+paperOutcome o.Passed = passed
+paperOutcome (o.Refused r) = stopped (table r .number) (table r .carries)

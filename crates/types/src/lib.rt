@@ -1,8 +1,10 @@
-// The types that all layers share: tags, refusals, and what a writer answers.
+// The types that all layers share: tags, refusals, and what a check or a writer answers.
+mod outcome;
 mod refusal;
 mod tag;
 mod written;
 
+pub use outcome::Outcome;
 pub use refusal::Refusal;
 pub use tag::ApplicationTagNumber;
 pub use tag::Tag;

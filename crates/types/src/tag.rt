@@ -1,6 +1,7 @@
 // Tags, by their class, number and value.
 ghost use mathlib.Core.Path.{_≡_};
-ghost use Rattle.types.specs.Tag.{tag, numberOf, tagOf};
+ghost use Prim.Native.Nat.{_<_};
+ghost use Rattle.types.specs.Tag.{tag, applicationOf, numberOf, tagOf};
 
 // The sixteen numbers of application class.
 pub enum ApplicationTagNumber {
@@ -20,6 +21,33 @@ pub enum ApplicationTagNumber {
     Reserve1,
     Reserve2,
     Reserve3,
+}
+
+impl ApplicationTagNumber {
+    // The number that stands in a tag.
+    pub fn number(self) -> u8
+        ensures { λ r. ⌜ r ≡ applicationOf self ⌝ }
+        ensures { λ r. ⌜ r < 16 ⌝ }
+    {
+        match self {
+            ApplicationTagNumber::Null => 0,
+            ApplicationTagNumber::Boolean => 1,
+            ApplicationTagNumber::UnsignedInt => 2,
+            ApplicationTagNumber::SignedInt => 3,
+            ApplicationTagNumber::Real => 4,
+            ApplicationTagNumber::Double => 5,
+            ApplicationTagNumber::OctetString => 6,
+            ApplicationTagNumber::CharacterString => 7,
+            ApplicationTagNumber::BitString => 8,
+            ApplicationTagNumber::Enumerated => 9,
+            ApplicationTagNumber::Date => 10,
+            ApplicationTagNumber::Time => 11,
+            ApplicationTagNumber::ObjectId => 12,
+            ApplicationTagNumber::Reserve1 => 13,
+            ApplicationTagNumber::Reserve2 => 14,
+            ApplicationTagNumber::Reserve3 => 15,
+        }
+    }
 }
 
 // A tag's class and number.

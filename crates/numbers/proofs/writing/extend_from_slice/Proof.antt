@@ -14,7 +14,7 @@ answered : (c : tie.After-next) → (let a = c .before .before .before .before .
 answered c = sym (c .before .before .room .ensures) ∙ ap paperWritten (c .next .given .1)
 
 fits : (c : tie.After-next) → (let a = c .before .before .before .before .before .before .args in a .place + length (a .src .now) ≤ length (a .buf .now))
-fits c = let a = c .before .before .before .before .before .before .args in (rw (answered c) at (write-room (length (a .src .now)) (length (a .src .now)) (a .buf .now) (a .place))) .1
+fits c = let a = c .before .before .before .before .before .before .args in (rw (answered c) at (write-room (length (a .src .now)) can (length (a .src .now)) (a .buf .now) (a .place))) .1
 
 room-requires : tie.Need-room-requires
 room-requires c κs = search needs

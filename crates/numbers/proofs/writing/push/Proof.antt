@@ -17,7 +17,7 @@ answered : (c : tie.After-next) → (let a = c .before .before .before .before .
 answered c = sym (c .before .before .room .ensures) ∙ ap paperWritten (c .next .given .1)
 
 fits : (c : tie.After-next) → (let a = c .before .before .before .before .before .args in a .place + 1 ≤ length (a .buf .now))
-fits c = let a = c .before .before .before .before .before .args in (rw (answered c) at (write-room 0 1 (a .buf .now) (a .place))) .1
+fits c = let a = c .before .before .before .before .before .args in (rw (answered c) at (write-room 0 can 1 (a .buf .now) (a .place))) .1
 
 room-requires : tie.Need-room-requires
 room-requires c κs = search needs

@@ -50,7 +50,7 @@ pattern-requires : tie.Need-pattern-requires
 pattern-requires c κs = search needs
 
 put-requires : tie.Need-put-requires
-put-requires c κs = let a = c .before .before .before .before .before .before .before .before .before .args in (rw (answered (c .before .before .before)) at (write-room 0 (c .before .before .before .before .before .before .before .signed-length .result) (a .buf .now) (a .place))) .1
+put-requires c κs = let a = c .before .before .before .before .before .before .before .before .before .args in (rw (answered (c .before .before .before)) at (write-room 0 can (c .before .before .before .before .before .before .before .signed-length .result) (a .buf .now) (a .place))) .1
 
 enum-known-r : tie.Need-enum-known-r
 enum-known-r c = search needs

@@ -32,7 +32,7 @@ enum-known-next : tie.Need-enum-known-next
 enum-known-next c = search needs
 
 put-requires : tie.Need-put-requires
-put-requires c κs = let a = c .before .before .before .before .before .before .before .before .args in (rw (answered (c .before .before)) at (write-room 0 (c .before .before .before .before .before .before .unsigned-length .result) (a .buf .now) (a .place))) .1
+put-requires c κs = let a = c .before .before .before .before .before .before .before .before .args in (rw (answered (c .before .before)) at (write-room 0 can (c .before .before .before .before .before .before .unsigned-length .result) (a .buf .now) (a .place))) .1
 
 enum-known-r : tie.Need-enum-known-r
 enum-known-r c = search needs

@@ -1,0 +1,38 @@
+-- A tag whose content is to follow: what is written of it, and what is written where nothing follows.
+-- Assumes nothing.
+use mathlib.Core.Path.{_≡_, refl, _∙_, ap, sym}
+use mathlib.Core.Bool.{Bool, true, false}
+use Prim.Native.Nat.{ℕ, _+_, _-_, _≤_, _<_}
+use native.Mathlib.Nat.{add-zero}
+use native.Mathlib.Omega.{arith}
+use mathlib.Core.List.{List}
+use lib.ListN.{length}
+use borrow.Author.Tests.{le-ltb}
+use Rattle.types.specs.Tag.{Tag}
+use Rattle.types.specs.Refusal.{Carried}
+use Rattle.types.specs.Answer.{Answer, accepted, refused}
+use Rattle.types.specs.Writing.{Left, left, over, Writable, can, settled, writeAnswer, writing}
+use Rattle.tags.specs.Writing.{headerBytes, hasNoValue, writableTag, begun, tagTo, tagBefore}
+use Rattle.numbers.proofs.Inside.{Room, write-room}
+use Rattle.tags.proofs.Held.{header-short}
+
+-- where all tests pass, writing the header's bytes is what is asked
+pub begun-written : (t : Tag) (content : ℕ) (bytes xs : List ℕ) (place : ℕ) → bytes ≡ headerBytes t → length xs ≤ 65535 → place ≤ length xs → hasNoValue t ≡ true → place + (length (headerBytes t) + content) ≤ length xs
+    → writing (length bytes) can bytes xs place ≡ tagBefore t content xs place
+unfolding writing writeAnswer tagBefore
+begun-written t content bytes xs place e small inside value room =
+    rw e
+    (let s : length (headerBytes t) ≤ 65535 = omega (arith, header-short t) in
+    let r : place + length (headerBytes t) ≤ length xs = omega arith in
+    simp (le-ltb 65535 (length xs) small, le-ltb 65535 (length (headerBytes t)) s, le-ltb (length xs) place inside, value, le-ltb (length xs) (place + length (headerBytes t)) r, le-ltb (length xs) (place + (length (headerBytes t) + content)) room))
+
+-- a write of bytes, where none are to follow
+alone : (bytes xs : List ℕ) (place : ℕ) (a : Answer (Unit {0})) → Room (length bytes) xs place a → begun bytes xs place a ≡ settled bytes xs place a
+alone bytes xs place (accepted u next) r = ap (λ (p : ℕ). left (accepted tt p) (over xs place bytes)) (sym (r .0))
+alone bytes xs place (refused n c) r = refl
+
+pub begun-alone : (t : Tag) (xs : List ℕ) (place : ℕ) → tagBefore t 0 xs place ≡ tagTo t xs place
+unfolding tagBefore tagTo writing
+begun-alone t xs place =
+    rw (add-zero (length (headerBytes t)))
+    (alone (headerBytes t) xs place (writeAnswer 0 (writableTag t) (length (headerBytes t)) xs place) (write-room 0 (writableTag t) (length (headerBytes t)) xs place))

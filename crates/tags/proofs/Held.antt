@@ -1,0 +1,77 @@
+-- Laws of the bytes that a header holds.
+-- Assumes nothing.
+use mathlib.Core.Path.{_≡_, refl, _∙_, ap, sym}
+use mathlib.Core.Bool.{Bool, true, false}
+use Prim.Native.Nat.{ℕ, zero, suc, _+_, _*_, _<_, _≤_}
+use native.Mathlib.Omega.{arith}
+use native.Mathlib.Nat.{le-of-suc-le-suc, not-suc-le-zero}
+use mathlib.Core.List.{List, [], _∷_, _++_, append-assoc, append-nil}
+use lib.ListN.{length, take, set, length-append}
+use lib.Dec.{ltb, lit≤}
+use Rattle.types.specs.Choice.{if}
+use Rattle.numbers.specs.Integer.{lowBytes}
+use Rattle.types.specs.Tag.{Number, application, context, opening, closing, Tag}
+use Rattle.tags.specs.Writing.{lowBits, valueBytes, contextBytes, numberBytes, headerBytes}
+use Rattle.tags.specs.Held.{pad, holding, pushed, pushes}
+use Rattle.tags.specs.declared.header.Header.{Header}
+
+-- one more byte goes where the zeros begin
+pub pad-more : (n : ℕ) (l : List ℕ) (b : ℕ) → length l < n → set (pad n l) (length l) b ≡ pad n (l ++ (b ∷ []))
+pad-more zero l b h = absurd (not-suc-le-zero h)
+pad-more (suc n) [] b h = refl
+pad-more (suc n) (a ∷ l) b h = ap (λ (t : List ℕ). a ∷ t) (pad-more n l b (le-of-suc-le-suc h))
+
+pub padded : (n : ℕ) (l : List ℕ) → length (pad n l) ≡ n
+padded zero l = refl
+padded (suc n) [] = ap suc (padded n [])
+padded (suc n) (a ∷ l) = ap suc (padded n l)
+
+pub take-pad : (n : ℕ) (l : List ℕ) → length l ≤ n → take (length l) (pad n l) ≡ l
+take-pad n [] h = refl
+take-pad zero (a ∷ l) h = absurd (not-suc-le-zero h)
+take-pad (suc n) (a ∷ l) h = ap (λ (t : List ℕ). a ∷ t) (take-pad n l (le-of-suc-le-suc h))
+
+pushed-holding : (l : List ℕ) (b : ℕ) → length l < 7 → pushed (holding l) b ≡ holding (l ++ (b ∷ []))
+pushed-holding l b h =
+    let e : length l + 1 ≡ length (l ++ (b ∷ [])) = omega (arith, length-append l (b ∷ [])) in
+    λ i. record { bytes = pad-more 7 l b h i; len = e i }
+
+pub pushes-holding : (bs l : List ℕ) → length l + length bs ≤ 7 → pushes (holding l) bs ≡ holding (l ++ bs)
+pushes-holding [] l h = ap holding (sym (append-nil l))
+pushes-holding (b ∷ bs) l h =
+    ap (λ (x : Header). pushes x bs) (pushed-holding l b (omega arith))
+    ∙ pushes-holding bs (l ++ (b ∷ [])) (omega (arith, length-append l (b ∷ [])))
+    ∙ ap holding (append-assoc l (b ∷ []) bs)
+
+-- at most five bytes follow for a value
+pub value-short : (v : ℕ) → length (valueBytes v) ≤ 5
+value-short v = go (ltb v 5) (ltb v 254) (ltb v 65536)
+  where
+    go : (a b c : Bool) → length (if a [] (if b (v ∷ []) (if c (254 ∷ lowBytes 2 v) (255 ∷ lowBytes 4 v)))) ≤ 5
+    go true b c = lit≤ tt
+    go false true c = lit≤ tt
+    go false false true = lit≤ tt
+    go false false false = lit≤ tt
+
+-- at most two bytes tell a context number
+pub context-short : (n low : ℕ) → length (contextBytes n low) ≤ 2
+context-short n low = go (ltb n 15)
+  where
+    go : (a : Bool) → length (if a ((n * 16 + 8 + low) ∷ []) ((248 + low) ∷ n ∷ [])) ≤ 2
+    go true = lit≤ tt
+    go false = lit≤ tt
+
+-- a header has at most seven bytes
+pub header-short : (t : Tag) → length (headerBytes t) ≤ 7
+unfolding headerBytes
+header-short t = go (t .number)
+  where
+    go : (n : Number) → length (numberBytes n (t .value)) ≤ 7
+    go (application n) = omega (arith, value-short (t .value))
+    go (context n) = omega (arith, value-short (t .value), context-short n (lowBits (t .value)), length-append (contextBytes n (lowBits (t .value))) (valueBytes (t .value)))
+    go (opening n) = omega (arith, context-short n 6)
+    go (closing n) = omega (arith, context-short n 7)
+
+-- the bytes that a struct holds, read back
+pub held-bytes : (h : Header) (l : List ℕ) → h ≡ holding l → length l ≤ 7 → take (h .len) (h .bytes) ≡ l
+held-bytes h l e k = ap (λ (x : Header). take (x .len) (x .bytes)) e ∙ take-pad 7 l k

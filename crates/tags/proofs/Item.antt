@@ -1,0 +1,111 @@
+-- An item is its header and its content: writing the two in turn, the content into the rest of the buffer, is writing both at once.
+-- Assumes nothing.
+use mathlib.Core.Path.{_≡_, refl, _∙_, ap, ap₂, sym, subst}
+use mathlib.Core.Bool.{Bool, true, false}
+use Prim.Native.Nat.{ℕ, _+_, _-_, _≤_}
+use native.Mathlib.Nat.{add-assoc, zero-add}
+use native.Mathlib.Omega.{arith}
+use mathlib.Core.List.{List, [], _∷_, _++_, append-assoc, append-nil}
+use lib.Dec.{ltb}
+use lib.ListN.{length, take, drop, length-append, length-drop, drop-of-length-le}
+use lib.Seq.{take-at, drop-at, drop-drop, length-take-le, take-all}
+use borrow.Author.Tests.{ltb-false, le-ltb}
+use borrow.Rule.Slice.PartMut.{putMid}
+use Rattle.types.specs.Tag.{Number, Tag, tag}
+use Rattle.types.specs.Refusal.{Carried}
+use Rattle.types.specs.Answer.{Answer, accepted, refused}
+use Rattle.types.specs.Writing.{Left, left, over, can, settled, writeAnswer, writing}
+use Rattle.numbers.proofs.Inside.{Room, write-room}
+use Rattle.tags.specs.Writing.{headerBytes, writableTag, begun, tagBefore}
+use Rattle.tags.specs.Item.{itemBytes, itemTo}
+
+-- content written behind the first bytes of an item, where those were written
+abbrev pub followed : List ℕ → List ℕ → Answer (Unit {0}) → Left
+followed content ys (accepted u next) = left (accepted tt (next + length content)) (take next ys ++ over (drop next ys) 0 content)
+followed content ys (refused n c) = left (refused n c) ys
+
+module _ (bytes content xs : List ℕ) (place : ℕ) (fits : place + (length bytes + length content) ≤ length xs) where
+  head-length : length (take place xs ++ bytes) ≡ place + length bytes
+  head-length = simp (length-append, length-take-le place xs (omega arith))
+
+  regrouped : over xs place bytes ≡ (take place xs ++ bytes) ++ drop (place + length bytes) xs
+  regrouped = sym (append-assoc (take place xs) bytes (drop (place + length bytes) xs))
+
+  over-then : over xs place (bytes ++ content) ≡ take (place + length bytes) (over xs place bytes) ++ over (drop (place + length bytes) (over xs place bytes)) 0 content
+  over-then =
+      let p : ℕ = place + length bytes in
+      let t : take p (over xs place bytes) ≡ take place xs ++ bytes = ap (take p) regrouped ∙ take-at (take place xs ++ bytes) (drop p xs) p head-length in
+      let d : drop p (over xs place bytes) ≡ drop p xs = ap (drop p) regrouped ∙ drop-at (take place xs ++ bytes) (drop p xs) p head-length in
+      rw (t, d, zero-add, drop-drop, length-append, ← add-assoc, append-assoc, append-assoc)
+
+pub over-length : (bytes xs : List ℕ) (place : ℕ) → place + length bytes ≤ length xs → length (over xs place bytes) ≡ length xs
+over-length bytes xs place fits = simp (length-append, length-take-le place xs (omega arith), length-drop) (omega arith)
+
+-- the first bytes and then the content, by the one answer that both have
+pub by-parts : (bytes content xs : List ℕ) (place : ℕ) (a : Answer (Unit {0})) → Room (length bytes + length content) xs place a
+    → settled (bytes ++ content) xs place a ≡ followed content (begun bytes xs place a .buffer) (begun bytes xs place a .answer)
+by-parts bytes content xs place (accepted u next) r =
+    let e : next ≡ place + length bytes + length content = omega (arith, r .0) in
+    λ i. left (accepted tt (e i)) (over-then bytes content xs place (r .1) i)
+by-parts bytes content xs place (refused n c) r = refl
+
+-- where a header was written, there is room for the content that it is to have
+abbrev BegunRoom : ℕ → List ℕ → Answer (Unit {0}) → Type 0
+BegunRoom content ys (accepted u next) = (next + content ≤ length ys) × (length ys ≤ 65535)
+BegunRoom content ys (refused n c) = Unit {0}
+
+room-left : (bytes : List ℕ) (content : ℕ) (xs : List ℕ) (place : ℕ) (a : Answer (Unit {0})) → Room (length bytes + content) xs place a
+    → BegunRoom content (begun bytes xs place a .buffer) (begun bytes xs place a .answer)
+room-left bytes content xs place (accepted u next) r =
+    let l : length (over xs place bytes) ≡ length xs = over-length bytes xs place (omega (arith, r .1)) in
+    (omega (arith, r .1), omega (arith, r .2))
+room-left bytes content xs place (refused n c) r = tt
+
+pub begun-room : (t : Tag) (content : ℕ) (xs : List ℕ) (place next : ℕ) (ys : List ℕ) → tagBefore t content xs place ≡ left (accepted tt next) ys
+    → (next + content ≤ length ys) × (length ys ≤ 65535)
+unfolding tagBefore
+begun-room t content xs place next ys e =
+    subst (λ (l : Left). BegunRoom content (l .buffer) (l .answer)) e
+    (room-left (headerBytes t) content xs place (writeAnswer 0 (writableTag t) (length (headerBytes t) + content) xs place) (write-room 0 (writableTag t) (length (headerBytes t) + content) xs place))
+
+-- the rest of a buffer from a place on, lent and put back
+lent-rest : (p : ℕ) (ys : List ℕ) → take (length ys - p) (drop p ys) ≡ drop p ys
+lent-rest p ys = take-all (length ys - p) (drop p ys) (omega (arith, length-drop p ys))
+
+put-back : (p : ℕ) (ys l : List ℕ) → p ≤ length ys → putMid p (length ys - p) ys l ≡ take p ys ++ l
+put-back p ys l h =
+    let e : drop (length ys - p) (drop p ys) ≡ [] = drop-of-length-le (drop p ys) {i = length ys - p} (omega (arith, length-drop p ys)) in
+    rw (e, append-nil)
+
+-- content that fits is written whole
+written-whole : (lent : ℕ) (content zs : List ℕ) → lent ≤ 65535 → length zs ≤ 65535 → length content ≤ length zs → writing lent can content zs 0 ≡ left (accepted tt (0 + length content)) (over zs 0 content)
+unfolding writing writeAnswer
+written-whole lent content zs l s f =
+    simp (le-ltb 65535 (length zs) s, le-ltb 65535 lent l, le-ltb (length zs) 0 (omega arith), le-ltb (length zs) (0 + length content) (omega arith))
+
+module _ (n : Number) (content xs : List ℕ) (place : ℕ) where
+  -- writing an item is writing its header, with room for the content, and then the content into the rest of the buffer
+  pub item-by-parts : itemTo n content xs place ≡ followed content (tagBefore (tag n (length content)) (length content) xs place .buffer) (tagBefore (tag n (length content)) (length content) xs place .answer)
+  unfolding itemTo writing tagBefore
+  item-by-parts =
+      let t : Tag = tag n (length content) in
+      rw (length-append (headerBytes t) content)
+      (by-parts (headerBytes t) content xs place (writeAnswer 0 (writableTag t) (length (headerBytes t) + length content) xs place)
+      (write-room 0 (writableTag t) (length (headerBytes t) + length content) xs place))
+
+  -- so a writer that does so has written the item
+  pub item-written : (next : ℕ) (ys : List ℕ) → tagBefore (tag n (length content)) (length content) xs place ≡ left (accepted tt next) ys
+      → (lent : ℕ) → lent ≤ 65535 → (a : Answer (Unit {0})) (zs bytes : List ℕ) → left a zs ≡ writing lent can bytes (take (length ys - next) (drop next ys)) 0 → bytes ≡ content
+      → (len : ℕ) → length content ≡ len → left (accepted tt (next + len)) (putMid next (length ys - next) ys zs) ≡ itemTo n content xs place
+  item-written next ys e lent small a zs bytes w same len sized =
+      let r = begun-room (tag n (length content)) (length content) xs place next ys e in
+      let d : length (drop next ys) ≡ length ys - next = length-drop next ys in
+      let z : zs ≡ over (drop next ys) 0 content =
+      ap (λ (l : Left). l .buffer) (w ∙ ap₂ (λ (bs ts : List ℕ). writing lent can bs ts 0) same (lent-rest next ys) ∙ written-whole lent content (drop next ys) small (omega arith) (omega arith)) in
+      ap (λ (k : ℕ). left (accepted tt (next + k)) (putMid next (length ys - next) ys zs)) (sym sized)
+      ∙ ap (left (accepted tt (next + length content))) (put-back next ys zs (omega arith) ∙ ap (λ (ts : List ℕ). take next ys ++ ts) z)
+      ∙ sym (item-by-parts ∙ ap (λ (l : Left). followed content (l .buffer) (l .answer)) e)
+
+  -- and one whose header was refused is refused
+  pub item-refused : (k : ℕ) (c : Carried) (ys : List ℕ) → tagBefore (tag n (length content)) (length content) xs place ≡ left (refused k c) ys → left (refused k c) ys ≡ itemTo n content xs place
+  item-refused k c ys e = sym (item-by-parts ∙ ap (λ (l : Left). followed content (l .buffer) (l .answer)) e)

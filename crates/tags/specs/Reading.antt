@@ -1,0 +1,85 @@
+-- Reading a tag (ASHRAE 135, 20.2.1, as 01 restates it), and what is expected of one.
+-- Assumes nothing.
+use Prim.Native.Nat.{ℕ, _/_, _%_}
+use mathlib.Core.Bool.{Bool, true, false}
+use mathlib.Core.List.{List}
+use lib.Dec.{ltb, eqb}
+use Rattle.types.specs.Choice.{if}
+use Rattle.types.specs.Tag.{Number, application, context, opening, closing, Tag, tag, numberOf, tagOf}
+use Rattle.types.specs.Refusal.{tagFound}
+use Rattle.types.specs.Answer.{Answer, accepted, refused, refusal, then, Outcome, passed, stopped}
+use Rattle.numbers.specs.Reading.{byteFrom, fixedFrom}
+use Rattle.tags.specs.declared.reading.TagRead.{TagRead}
+use Rattle.tags.specs.declared.reading.TagRead.the-variants as r
+use Rattle.tags.specs.declared.reading.NumberRead.{NumberRead}
+use Rattle.tags.specs.declared.reading.NumberRead.the-variants as n
+
+-- the class and number that the first byte tells: the class in bit 3, the number in bits 7 to 4; in context class a field of 15 says that the next byte is the number, and with another field low bits 6 open and 7 close
+unfoldable pub numberFrom : ℕ → List ℕ → ℕ → Answer Number
+numberFrom first xs place =
+    if (eqb (first / 8 % 2) 0) (accepted (application (first / 16)) place)
+    (if (eqb (first / 16) 15) (then (byteFrom xs place) (λ n next. accepted (context n) next))
+    (if (eqb (first % 8) 6) (accepted (opening (first / 16)) place)
+    (if (eqb (first % 8) 7) (accepted (closing (first / 16)) place)
+    (accepted (context (first / 16)) place))))
+
+-- the value that the low bits tell: 0 to 4 are the value; 5 says that a byte follows, where 254 means two more bytes, 255 four more, and any other is the value; 6 and 7 give 0
+unfoldable pub valueFrom : ℕ → List ℕ → ℕ → Answer ℕ
+valueFrom low xs place =
+    if (ltb low 5) (accepted low place)
+    (if (eqb low 5)
+    (then (byteFrom xs place) (λ b next.
+    if (eqb b 254) (fixedFrom 2 xs next)
+    (if (eqb b 255) (fixedFrom 4 xs next)
+    (accepted b next))))
+    (accepted 0 place))
+
+-- the tag whose first byte is known
+unfoldable pub tagAfter : ℕ → List ℕ → ℕ → Answer Tag
+tagAfter first xs place =
+    then (numberFrom first xs place) (λ n after.
+    then (valueFrom (first % 8) xs after) (λ v next.
+    accepted (tag n v) next))
+
+-- the tag at a place
+unfoldable pub tagFrom : List ℕ → ℕ → Answer Tag
+tagFrom xs place = then (byteFrom xs place) (λ first next. tagAfter first xs next)
+
+-- one class and one number
+abbrev pub sameNumber : Number → Number → Bool
+sameNumber (application a) (application b) = eqb a b
+sameNumber (application a) (context b) = false
+sameNumber (application a) (opening b) = false
+sameNumber (application a) (closing b) = false
+sameNumber (context a) (application b) = false
+sameNumber (context a) (context b) = eqb a b
+sameNumber (context a) (opening b) = false
+sameNumber (context a) (closing b) = false
+sameNumber (opening a) (application b) = false
+sameNumber (opening a) (context b) = false
+sameNumber (opening a) (opening b) = eqb a b
+sameNumber (opening a) (closing b) = false
+sameNumber (closing a) (application b) = false
+sameNumber (closing a) (context b) = false
+sameNumber (closing a) (opening b) = false
+sameNumber (closing a) (closing b) = eqb a b
+
+-- the tag at a place, which is to have the number expected
+unfoldable pub expectedFrom : Number → List ℕ → ℕ → Answer Tag
+expectedFrom expected xs place =
+    then (tagFrom xs place) (λ t next.
+    if (sameNumber (t .number) expected) (accepted t next) (refused 4 (tagFound t)))
+
+unfoldable pub expectedNumber : Number → Tag → Outcome
+expectedNumber expected t = if (sameNumber (t .number) expected) passed (stopped 4 (tagFound t))
+
+unfoldable pub expectedValue : ℕ → Tag → Outcome
+expectedValue expected t = if (eqb (t .value) expected) passed (stopped 5 (tagFound t))
+
+abbrev pub paperTag : TagRead → Answer Tag
+paperTag (r.Read t next) = accepted (tagOf t) next
+paperTag (r.Refused x) = refusal x
+
+abbrev pub paperNumber : NumberRead → Answer Number
+paperNumber (n.Number k next) = accepted (numberOf k) next
+paperNumber (n.Refused x) = refusal x

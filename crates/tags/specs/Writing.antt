@@ -1,0 +1,66 @@
+-- Writing a tag (ASHRAE 135, 20.2.1).
+-- Assumes nothing.
+use Prim.Native.Nat.{ℕ, _+_, _*_}
+use mathlib.Core.Bool.{Bool, true, false}
+use mathlib.Core.List.{List, [], _∷_, _++_}
+use lib.ListN.{length}
+use lib.Dec.{ltb, eqb}
+use Rattle.types.specs.Choice.{if}
+use Rattle.types.specs.Tag.{Number, application, context, opening, closing, Tag}
+use Rattle.types.specs.Refusal.{amount}
+use Rattle.types.specs.Answer.{Answer, accepted, refused}
+use Rattle.types.specs.Writing.{Left, left, over, Writable, can, cannot, writeAnswer, writing}
+use Rattle.numbers.specs.Integer.{lowBytes}
+
+-- the low bits that tell a value
+abbrev pub lowBits : ℕ → ℕ
+lowBits v = if (ltb v 5) v 5
+
+-- the bytes that follow for a value: none to 4, one to 253, the marker 254 and two to 65,535, and 255 and four above that
+abbrev pub valueBytes : ℕ → List ℕ
+valueBytes v =
+    if (ltb v 5) []
+    (if (ltb v 254) (v ∷ [])
+    (if (ltb v 65536) (254 ∷ lowBytes 2 v)
+    (255 ∷ lowBytes 4 v)))
+
+-- a context number, to 14 in the field and from 15 on in a second byte, with the low bits
+abbrev pub contextBytes : ℕ → ℕ → List ℕ
+contextBytes n low = if (ltb n 15) ((n * 16 + 8 + low) ∷ []) ((248 + low) ∷ n ∷ [])
+
+-- a tag's bytes, by its class and number
+abbrev pub numberBytes : Number → ℕ → List ℕ
+numberBytes (application n) v = (n * 16 + lowBits v) ∷ valueBytes v
+numberBytes (context n) v = contextBytes n (lowBits v) ++ valueBytes v
+numberBytes (opening n) v = contextBytes n 6
+numberBytes (closing n) v = contextBytes n 7
+
+unfoldable pub headerBytes : Tag → List ℕ
+headerBytes t = numberBytes (t .number) (t .value)
+
+-- an opening and a closing have no value
+abbrev pub noValue : Number → ℕ → Bool
+noValue (application n) v = true
+noValue (context n) v = true
+noValue (opening n) v = eqb v 0
+noValue (closing n) v = eqb v 0
+
+unfoldable pub hasNoValue : Tag → Bool
+hasNoValue t = noValue (t .number) (t .value)
+
+-- else the tag cannot be written
+abbrev pub writableTag : Tag → Writable
+writableTag t = if (hasNoValue t) can (cannot 12 (amount 0))
+
+-- what writing a tag at a place of a buffer answers and leaves
+unfoldable pub tagTo : Tag → List ℕ → ℕ → Left
+tagTo t xs place = writing 0 (writableTag t) (headerBytes t) xs place
+
+-- bytes that others are to follow: the answer is of all of them, the place is behind these
+abbrev pub begun : List ℕ → List ℕ → ℕ → Answer (Unit {0}) → Left
+begun bytes xs place (accepted u next) = left (accepted tt (place + length bytes)) (over xs place bytes)
+begun bytes xs place (refused n c) = left (refused n c) xs
+
+-- what writing a tag answers and leaves, where so many bytes of content are to follow it
+unfoldable pub tagBefore : Tag → ℕ → List ℕ → ℕ → Left
+tagBefore t content xs place = begun (headerBytes t) xs place (writeAnswer 0 (writableTag t) (length (headerBytes t) + content) xs place)

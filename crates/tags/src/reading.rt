@@ -1,0 +1,197 @@
+// Tags read at a place of a buffer, and what is expected of them.
+ghost use mathlib.Core.Path.{_≡_};
+ghost use Prim.Native.Nat.{_<_};
+ghost use Rattle.types.specs.Tag.{applicationOf, numberOf, tagOf};
+ghost use Rattle.types.specs.Answer.{paperOutcome};
+ghost use Rattle.numbers.specs.Reading.{paperWord};
+ghost use Rattle.tags.specs.Reading.{numberFrom, valueFrom, tagAfter, tagFrom, expectedFrom, sameNumber, expectedNumber, expectedValue, paperNumber, paperTag};
+use numbers::ByteRead;
+use numbers::WordRead;
+use types::ApplicationTagNumber;
+use types::Outcome;
+use types::Refusal;
+use types::Tag;
+use types::TagNumber;
+
+// A tag and the place after it.
+pub enum TagRead {
+    Read(Tag, usize),
+    Refused(Refusal),
+}
+
+// A tag's class and number, and the place after them.
+enum NumberRead {
+    Number(TagNumber, usize),
+    Refused(Refusal),
+}
+
+// The tag at a place.
+pub fn decode(buf: &[u8], place: usize) -> TagRead
+    ensures { λ r. ⌜ paperTag r ≡ tagFrom (now (buf .entry)) place ⌝ }
+{
+    match numbers::read_byte(buf, place) {
+        ByteRead::Byte(first, next) => tag_after(first, buf, next),
+        ByteRead::Refused(r) => TagRead::Refused(r),
+    }
+}
+
+// The tag at a place, where it has the number that is expected.
+pub fn decode_expected(expected: TagNumber, buf: &[u8], place: usize) -> TagRead
+    ensures { λ r. ⌜ paperTag r ≡ expectedFrom (numberOf expected) (now (buf .entry)) place ⌝ }
+{
+    match decode(buf, place) {
+        TagRead::Read(tag, next) => {
+            let number = tag.number;
+            if same_number(number, expected) {
+                TagRead::Read(tag, next)
+            } else {
+                TagRead::Refused(Refusal::OtherTagNumber(tag))
+            }
+        }
+        TagRead::Refused(r) => TagRead::Refused(r),
+    }
+}
+
+// Whether a tag has the value that is expected.
+pub fn expect_value(tag: Tag, value: u32) -> Outcome
+    ensures { λ r. ⌜ paperOutcome r ≡ expectedValue value (tagOf tag) ⌝ }
+{
+    if tag.value == value {
+        Outcome::Passed
+    } else {
+        Outcome::Refused(Refusal::OtherTagValue(tag))
+    }
+}
+
+// Whether a tag has the number that is expected.
+pub fn expect_number(tag: Tag, number: TagNumber) -> Outcome
+    ensures { λ r. ⌜ paperOutcome r ≡ expectedNumber (numberOf number) (tagOf tag) ⌝ }
+{
+    let found = tag.number;
+    if same_number(found, number) {
+        Outcome::Passed
+    } else {
+        Outcome::Refused(Refusal::OtherTagNumber(tag))
+    }
+}
+
+// The tag whose first byte is known.
+fn tag_after(first: u8, buf: &[u8], place: usize) -> TagRead
+    ensures { λ r. ⌜ paperTag r ≡ tagAfter first (now (buf .entry)) place ⌝ }
+{
+    match number_after(first, buf, place) {
+        NumberRead::Number(number, after) => match value_after(first % 8, buf, after) {
+            WordRead::Word(value, next) => TagRead::Read(Tag { number, value }, next),
+            WordRead::Refused(r) => TagRead::Refused(r),
+        },
+        NumberRead::Refused(r) => TagRead::Refused(r),
+    }
+}
+
+// The class and number that a tag's first byte tells, with the byte after it where they are long.
+fn number_after(first: u8, buf: &[u8], place: usize) -> NumberRead
+    ensures { λ r. ⌜ paperNumber r ≡ numberFrom first (now (buf .entry)) place ⌝ }
+{
+    let field = first / 16;
+    let low = first % 8;
+    if first / 8 % 2 == 0 {
+        return NumberRead::Number(TagNumber::Application(application(field)), place);
+    }
+    if field == 15 {
+        return match numbers::read_byte(buf, place) {
+            ByteRead::Byte(number, next) => NumberRead::Number(
+                TagNumber::ContextSpecific(number),
+                next,
+            ),
+            ByteRead::Refused(r) => NumberRead::Refused(r),
+        };
+    }
+    if low == 6 {
+        return NumberRead::Number(TagNumber::ContextSpecificOpening(field), place);
+    }
+    if low == 7 {
+        return NumberRead::Number(TagNumber::ContextSpecificClosing(field), place);
+    }
+    NumberRead::Number(TagNumber::ContextSpecific(field), place)
+}
+
+// The value that a tag's low bits tell, with the bytes after its number where it is long.
+fn value_after(low: u8, buf: &[u8], place: usize) -> WordRead
+    ensures { λ r. ⌜ paperWord r ≡ valueFrom low (now (buf .entry)) place ⌝ }
+{
+    if low < 5 {
+        return WordRead::Word(low as u32, place);
+    }
+    if low != 5 {
+        return WordRead::Word(0, place);
+    }
+    match numbers::read_byte(buf, place) {
+        ByteRead::Byte(value, next) => {
+            if value == 254 {
+                return numbers::read_two_bytes(buf, next);
+            }
+            if value == 255 {
+                return numbers::read_four_bytes(buf, next);
+            }
+            WordRead::Word(value as u32, next)
+        }
+        ByteRead::Refused(r) => WordRead::Refused(r),
+    }
+}
+
+// The application tag's name for a number below 16.
+fn application(number: u8) -> ApplicationTagNumber
+    requires { ⌜ number < 16 ⌝ }
+    ensures { λ r. ⌜ applicationOf r ≡ number ⌝ }
+{
+    match number {
+        0 => ApplicationTagNumber::Null,
+        1 => ApplicationTagNumber::Boolean,
+        2 => ApplicationTagNumber::UnsignedInt,
+        3 => ApplicationTagNumber::SignedInt,
+        4 => ApplicationTagNumber::Real,
+        5 => ApplicationTagNumber::Double,
+        6 => ApplicationTagNumber::OctetString,
+        7 => ApplicationTagNumber::CharacterString,
+        8 => ApplicationTagNumber::BitString,
+        9 => ApplicationTagNumber::Enumerated,
+        10 => ApplicationTagNumber::Date,
+        11 => ApplicationTagNumber::Time,
+        12 => ApplicationTagNumber::ObjectId,
+        13 => ApplicationTagNumber::Reserve1,
+        14 => ApplicationTagNumber::Reserve2,
+        _ => ApplicationTagNumber::Reserve3,
+    }
+}
+
+// Whether two tags have one class and number.
+fn same_number(one: TagNumber, other: TagNumber) -> bool
+    ensures { λ r. ⌜ r ≡ sameNumber (numberOf one) (numberOf other) ⌝ }
+{
+    match one {
+        TagNumber::Application(a) => match other {
+            TagNumber::Application(b) => a.number() == b.number(),
+            TagNumber::ContextSpecific(_) => false,
+            TagNumber::ContextSpecificOpening(_) => false,
+            TagNumber::ContextSpecificClosing(_) => false,
+        },
+        TagNumber::ContextSpecific(a) => match other {
+            TagNumber::Application(_) => false,
+            TagNumber::ContextSpecific(b) => a == b,
+            TagNumber::ContextSpecificOpening(_) => false,
+            TagNumber::ContextSpecificClosing(_) => false,
+        },
+        TagNumber::ContextSpecificOpening(a) => match other {
+            TagNumber::Application(_) => false,
+            TagNumber::ContextSpecific(_) => false,
+            TagNumber::ContextSpecificOpening(b) => a == b,
+            TagNumber::ContextSpecificClosing(_) => false,
+        },
+        TagNumber::ContextSpecificClosing(a) => match other {
+            TagNumber::Application(_) => false,
+            TagNumber::ContextSpecific(_) => false,
+            TagNumber::ContextSpecificOpening(_) => false,
+            TagNumber::ContextSpecificClosing(b) => a == b,
+        },
+    }
+}
