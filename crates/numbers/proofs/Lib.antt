@@ -5,5 +5,7 @@ pub mod Least
 pub mod Shortest
 pub mod Inside
 pub mod Over
+pub mod Found
+pub mod Wrote
 pub mod Single
 pub mod Examples

@@ -16,6 +16,7 @@ use Rattle.types.specs.Refusal.{Carried}
 use Rattle.types.specs.Answer.{Answer, accepted, refused}
 use Rattle.types.specs.Writing.{Left, left, over, can, settled, writeAnswer, writing}
 use Rattle.numbers.proofs.Inside.{Room, write-room}
+use Rattle.numbers.proofs.Wrote.{over-length}
 use Rattle.tags.specs.Writing.{headerBytes, writableTag, begun, tagBefore}
 use Rattle.tags.specs.Item.{itemBytes, itemTo}
 
@@ -37,9 +38,6 @@ module _ (bytes content xs : List ℕ) (place : ℕ) (fits : place + (length byt
       let t : take p (over xs place bytes) ≡ take place xs ++ bytes = ap (take p) regrouped ∙ take-at (take place xs ++ bytes) (drop p xs) p head-length in
       let d : drop p (over xs place bytes) ≡ drop p xs = ap (drop p) regrouped ∙ drop-at (take place xs ++ bytes) (drop p xs) p head-length in
       rw (t, d, zero-add, drop-drop, length-append, ← add-assoc, append-assoc, append-assoc)
-
-pub over-length : (bytes xs : List ℕ) (place : ℕ) → place + length bytes ≤ length xs → length (over xs place bytes) ≡ length xs
-over-length bytes xs place fits = simp (length-append, length-take-le place xs (omega arith), length-drop) (omega arith)
 
 -- the first bytes and then the content, by the one answer that both have
 pub by-parts : (bytes content xs : List ℕ) (place : ℕ) (a : Answer (Unit {0})) → Room (length bytes + length content) xs place a

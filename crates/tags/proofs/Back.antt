@@ -1,0 +1,169 @@
+-- What is written reads back: every tag that can be carried, and every integer under every tag that its writer takes.
+-- Assumes nothing.
+use mathlib.Core.Path.{_≡_, refl, _∙_, ap, ap₂, sym, subst}
+use Prim.Native.Nat.{ℕ, suc, _+_, _*_, _/_, _%_, _^_, _<_, _≤_}
+use native.Mathlib.Omega.{arith}
+use native.Mathlib.Decide.{decLt}
+use mathlib.Core.List.{List, [], _∷_, _++_, append-assoc}
+use lib.IntN.{ℤ}
+use lib.Signed.{mag}
+use lib.ListN.{length, drop, length-append}
+use borrow.Author.Tests.{lt-ltb, le-ltb}
+use Rattle.types.specs.Tag.{Number, application, context, opening, closing, Tag, tag}
+use Rattle.types.specs.Answer.{accepted}
+use Rattle.types.specs.Writing.{Left, left, over, writing}
+use Rattle.numbers.specs.Integer.{lowBytes, unsignedValue, signedValue, unsignedBytes, signedBytes, Shortest}
+use Rattle.numbers.specs.Reading.{unsignedFrom, signedFrom}
+use Rattle.numbers.proofs.Low.{low-bytes-stand, low-bytes-length}
+use Rattle.numbers.proofs.Shortest.{unsigned-shortest, signed-shortest}
+use Rattle.numbers.proofs.Found.{behind, unsigned-at, signed-at}
+use Rattle.numbers.proofs.Wrote.{wrote, written-here, over-length}
+use Rattle.tags.specs.Reading.{tagFrom}
+use Rattle.tags.specs.Header.{Tells, inline, one, two, four, none, IsTag, ofApplication, ofLongContext, ofContext, ofOpening, ofClosing}
+use Rattle.tags.specs.Writing.{lowBits, valueBytes, contextBytes, numberBytes, headerBytes, writableTag, tagTo}
+use Rattle.tags.specs.Item.{itemBytes, itemTo}
+use Rattle.tags.proofs.Exactly.{tag-read}
+use Rattle.tags.proofs.Range.{InRange}
+
+-- below, or not
+split : {A : Type 0} (m n : ℕ) → (m < n → A) → (n ≤ m → A) → A
+split {A} m n f g = go (decLt m n)
+  where
+    go : Dec (m < n) → A
+    go (yes h) = f h
+    go (no h) = g (omega arith)
+
+low-lt : (v : ℕ) → lowBits v < 6
+low-lt v = split v 5 (λ h. simp (lt-ltb v 5 h) (omega arith)) (λ h. simp (le-ltb v 5 h) (omega arith))
+
+-- the low bits and the bytes that are written for a value tell it
+value-told : (v : ℕ) → v < 2 ^ 32 → Tells (lowBits v) v (valueBytes v)
+value-told v k =
+    split v 5 (λ h. simp (lt-ltb v 5 h) (inline h)) (λ h.
+    split v 254 (λ h₂. simp (le-ltb v 5 h, lt-ltb v 254 h₂) (one {b = v} (omega arith) (omega arith))) (λ h₂.
+    split v 65536
+    (λ h₃. simp (le-ltb v 5 h, le-ltb v 254 h₂, lt-ltb v 65536 h₃) (subst (λ (x : ℕ). Tells 5 x (254 ∷ lowBytes 2 v)) (low-bytes-stand 2 v h₃) (two (lowBytes 2 v) (low-bytes-length 2 v))))
+    (λ h₃. simp (le-ltb v 5 h, le-ltb v 254 h₂, le-ltb v 65536 h₃) (subst (λ (x : ℕ). Tells 5 x (255 ∷ lowBytes 4 v)) (low-bytes-stand 4 v k) (four (lowBytes 4 v) (low-bytes-length 4 v))))))
+
+-- what the first byte says: its class, its number field and its low bits
+application-bits : (n low : ℕ) → low < 8 → ((n * 16 + low) / 8 % 2 ≡ 0) × ((n * 16 + low) / 16 ≡ n) × ((n * 16 + low) % 8 ≡ low)
+application-bits n low h = (omega arith, omega arith, omega arith)
+
+context-bits : (n low : ℕ) → low < 8 → ((n * 16 + 8 + low) / 8 % 2 ≡ 1) × ((n * 16 + 8 + low) / 16 ≡ n) × ((n * 16 + 8 + low) % 8 ≡ low)
+context-bits n low h = (omega arith, omega arith, omega arith)
+
+long-bits : (low : ℕ) → low < 8 → ((248 + low) / 8 % 2 ≡ 1) × ((248 + low) / 16 ≡ 15) × ((248 + low) % 8 ≡ low)
+long-bits low h = (omega arith, omega arith, omega arith)
+
+not-fifteen : (n m : ℕ) → m ≡ n → n < 15 → m ≡ 15 → ⊥
+not-fifteen n m e h f = omega arith
+
+-- the bytes that are written for a tag are that tag
+module _ (n v : ℕ) where
+  application-is : v < 2 ^ 32 → IsTag (tag (application n) v) (numberBytes (application n) v)
+  application-is k =
+      let b = application-bits n (lowBits v) (omega (arith, low-lt v)) in
+      subst (λ (x : ℕ). IsTag (tag (application x) v) (numberBytes (application n) v)) (b .1)
+      (ofApplication (b .0) (subst (λ (x : ℕ). Tells x v (valueBytes v)) (sym (b .2)) (value-told v k)))
+
+  context-field : n < 15 → v < 2 ^ 32 → IsTag (tag (context n) v) ((n * 16 + 8 + lowBits v) ∷ valueBytes v)
+  context-field h k =
+      let b = context-bits n (lowBits v) (omega (arith, low-lt v)) in
+      subst (λ (x : ℕ). IsTag (tag (context x) v) ((n * 16 + 8 + lowBits v) ∷ valueBytes v)) (b .1)
+      (ofContext (b .0) (not-fifteen n _ (b .1) h) (subst (λ (x : ℕ). x < 6) (sym (b .2)) (low-lt v)) (subst (λ (x : ℕ). Tells x v (valueBytes v)) (sym (b .2)) (value-told v k)))
+
+  context-second : v < 2 ^ 32 → IsTag (tag (context n) v) ((248 + lowBits v) ∷ n ∷ valueBytes v)
+  context-second k =
+      let b = long-bits (lowBits v) (omega (arith, low-lt v)) in
+      ofLongContext (b .0) (b .1) (subst (λ (x : ℕ). Tells x v (valueBytes v)) (sym (b .2)) (value-told v k))
+
+  context-is : v < 2 ^ 32 → IsTag (tag (context n) v) (numberBytes (context n) v)
+  context-is k = split n 15 (λ h. simp (lt-ltb n 15 h) (context-field h k)) (λ h. simp (le-ltb n 15 h) (context-second k))
+
+opening-is : (n : ℕ) → n < 15 → IsTag (tag (opening n) 0) (numberBytes (opening n) 0)
+opening-is n h =
+    let b = context-bits n 6 (omega arith) in
+    simp (lt-ltb n 15 h) (subst (λ (x : ℕ). IsTag (tag (opening x) 0) ((n * 16 + 8 + 6) ∷ [])) (b .1) (ofOpening (b .0) (not-fifteen n _ (b .1) h) (b .2)))
+
+closing-is : (n : ℕ) → n < 15 → IsTag (tag (closing n) 0) (numberBytes (closing n) 0)
+closing-is n h =
+    let b = context-bits n 7 (omega arith) in
+    simp (lt-ltb n 15 h) (subst (λ (x : ℕ). IsTag (tag (closing x) 0) ((n * 16 + 8 + 7) ∷ [])) (b .1) (ofClosing (b .0) (not-fifteen n _ (b .1) h) (b .2)))
+
+pub header-is-tag : (n : Number) (v : ℕ) → InRange n v → IsTag (tag n v) (headerBytes (tag n v))
+unfolding headerBytes
+header-is-tag (application n) v r = application-is n v (r .1)
+header-is-tag (context n) v r = context-is n v (r .1)
+header-is-tag (opening n) v r = subst (λ (x : ℕ). IsTag (tag (opening n) x) (numberBytes (opening n) x)) (sym (r .1)) (opening-is n (r .0))
+header-is-tag (closing n) v r = subst (λ (x : ℕ). IsTag (tag (closing n) x) (numberBytes (closing n) x)) (sym (r .1)) (closing-is n (r .0))
+
+-- whatever `encode` writes, `decode` reads as the same tag, with the place after it; openings and closings of 15 and more are no tags that bytes carry (01 keeps them as the Rust reads them)
+pub round-trip : (n : Number) (v : ℕ) → InRange n v → (xs : List ℕ) (place next : ℕ) (ys : List ℕ) → tagTo (tag n v) xs place ≡ left (accepted tt next) ys → tagFrom ys place ≡ accepted (tag n v) next
+unfolding tagTo
+round-trip n v r xs place next ys e =
+    let h : List ℕ = headerBytes (tag n v) in
+    let w = wrote 0 (writableTag (tag n v)) h xs place next ys e in
+    let s : length (over xs place h) ≤ 65535 = omega (arith, over-length h xs place (w .room), w .small) in
+    rw (w .buffer, w .ends) (tag-read (over xs place h) s place (tag n v) h _ (written-here h xs place (w .room)) (header-is-tag n v r))
+
+-- what stands in the buffer where an item was written
+pub record ItemFound (n : Number) (content : List ℕ) (ys : List ℕ) (place next : ℕ) : Type 0 where
+  pub small : length ys ≤ 65535
+  pub after : ℕ
+  pub header : tagFrom ys place ≡ accepted (tag n (length content)) after
+  pub rest : List ℕ
+  pub here : drop after ys ≡ content ++ rest
+  pub ends : next ≡ after + length content
+
+pub item-found : (n : Number) (content : List ℕ) → InRange n (length content) → (xs : List ℕ) (place next : ℕ) (ys : List ℕ) → itemTo n content xs place ≡ left (accepted tt next) ys → ItemFound n content ys place next
+unfolding itemTo
+item-found n content r xs place next ys e =
+    let t : Tag = tag n (length content) in
+    let h : List ℕ = headerBytes t in
+    let w = wrote 0 (writableTag t) (itemBytes n content) xs place next ys e in
+    let l : length (itemBytes n content) ≡ length h + length content = length-append h content in
+    let rest : List ℕ = drop (place + length (itemBytes n content)) xs in
+    let s : length ys ≤ 65535 = omega (arith, ap length (w .buffer), over-length (itemBytes n content) xs place (w .room), w .small) in
+    let d : drop place ys ≡ h ++ (content ++ rest) = ap (drop place) (w .buffer) ∙ written-here (itemBytes n content) xs place (w .room) ∙ append-assoc h content rest in
+    record {
+      small = s;
+      after = place + length h;
+      header = tag-read ys s place t h (content ++ rest) d (header-is-tag n (length content) r);
+      rest = rest;
+      here = behind ys place h (content ++ rest) d;
+      ends = omega (arith, w .ends);
+    }
+
+-- an integer written under a tag: its tag is read, then its content as itself, which no shorter content holds
+pub record ReadsBack {A : Type 0} (valueOf : List ℕ → A) (reads : ℕ → List ℕ → ℕ → A → ℕ → Type 0) (n : Number) (v : A) (content ys : List ℕ) (place next : ℕ) : Type 0 where
+  pub after : ℕ
+  pub header : tagFrom ys place ≡ accepted (tag n (length content)) after
+  pub itself : reads (length content) ys after v next
+  pub fewest : Shortest valueOf v content
+
+module _ (n : Number) (xs : List ℕ) (place next : ℕ) (ys : List ℕ) where
+  -- every unsigned 64-bit integer, under every tag that can carry its length
+  pub unsigned-round-trip : (v : ℕ) → v < 2 ^ 64 → InRange n (length (unsignedBytes v)) → itemTo n (unsignedBytes v) xs place ≡ left (accepted tt next) ys
+      → ReadsBack unsignedValue (λ k zs p x q. unsignedFrom k zs p ≡ accepted x q) n v (unsignedBytes v) ys place next
+  unsigned-round-trip v h r e =
+      let s = unsigned-shortest v h in
+      let f = item-found n (unsignedBytes v) r xs place next ys e in
+      record {
+        after = f .after;
+        header = f .header;
+        itself = unsigned-at ys (f .after) (unsignedBytes v) (f .rest) (f .small) (s .holds .some) (s .most) (f .here) ∙ ap₂ accepted (s .holds .stands) (sym (f .ends));
+        fewest = s;
+      }
+
+  -- every signed one
+  pub signed-round-trip : (z : ℤ) → mag z < 2 ^ 63 → InRange n (length (signedBytes z)) → itemTo n (signedBytes z) xs place ≡ left (accepted tt next) ys
+      → ReadsBack signedValue (λ k zs p x q. signedFrom k zs p ≡ accepted x q) n z (signedBytes z) ys place next
+  signed-round-trip z h r e =
+      let s = signed-shortest z h in
+      let f = item-found n (signedBytes z) r xs place next ys e in
+      record {
+        after = f .after;
+        header = f .header;
+        itself = signed-at ys (f .after) (signedBytes z) (f .rest) (f .small) (s .holds .some) (s .most) (f .here) ∙ ap₂ accepted (s .holds .stands) (sym (f .ends));
+        fewest = s;
+      }
