@@ -24,3 +24,13 @@ pub use reading::expect_number;
 pub use reading::expect_value;
 pub use writing::begin;
 pub use writing::encode;
+
+// What stands under a tag is read, and written behind it, by the layer below: handed on to the layer above.
+pub use numbers::decode_signed;
+pub use numbers::decode_unsigned;
+pub use numbers::extend_from_slice;
+pub use numbers::push;
+pub use numbers::read_byte;
+pub use numbers::read_eight_bytes;
+pub use numbers::read_four_bytes;
+pub use numbers::read_slice;

@@ -1,0 +1,10 @@
+# make test: the whole gate. Any failing step ends it; its last line is the toolchain's 'N passed, M failed'.
+.PHONY: test kit
+
+test: kit
+	@rt fmt --check
+	@tools/check-promises
+	@rt ci
+
+kit:
+	@command -v rt >/dev/null || { echo "Thaolisem needs the Rattle kit: its command 'rt' is not on the PATH"; exit 1; }

@@ -1,0 +1,5 @@
+pub mod Table
+pub mod Text
+pub mod Check
+pub mod Answer
+pub mod Lead
