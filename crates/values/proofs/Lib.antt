@@ -1,1 +1,4 @@
 pub mod Patterns
+pub mod Exactly
+pub mod Single
+pub mod Examples

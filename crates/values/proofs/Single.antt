@@ -1,0 +1,56 @@
+-- No two answers of the value reader are the same on paper, so its promise admits a single one.
+-- Assumes nothing.
+use mathlib.Core.Path.{_≡_, refl, ap}
+use Prim.Native.Nat.{ℕ}
+use Rattle.types.specs.Refusal.{row}
+use Rattle.types.specs.Answer.{Answer, accepted, refused}
+use Rattle.types.proofs.Single.{told-apart, programRefusal, refusal-back}
+use Rattle.values.specs.Value.{Value, boolean, real, double, onDate, atTime, objectId, characterString, octetString, enumerated, bitString, unsignedInt, signedInt, valueOf}
+use Rattle.values.specs.Reading.{paperRead}
+use Rattle.values.specs.declared.value.ApplicationDataValue.{ApplicationDataValue}
+use Rattle.values.specs.declared.value.ApplicationDataValue.the-variants as v
+use Rattle.values.specs.declared.reading.ValueRead.{ValueRead}
+use Rattle.values.specs.declared.reading.ValueRead.the-variants as r
+
+abbrev pub programValue : Value → ApplicationDataValue
+programValue (boolean b) = v.Boolean b
+programValue (real x) = v.Real x
+programValue (double x) = v.Double x
+programValue (onDate d) = v.Date (record { year = d .year; month = d .month; day = d .day; wday = d .weekday })
+programValue (atTime t) = v.Time (record { hour = t .hour; minute = t .minute; second = t .second; hundredths = t .hundredths })
+programValue (objectId n i) = v.ObjectId (record { «object_type» = n; instance = i })
+programValue (characterString p) = v.CharacterString (p .start) (p .size)
+programValue (octetString p) = v.OctetString (p .start) (p .size)
+programValue (enumerated x) = v.Enumerated x
+programValue (bitString u p) = v.BitString u (p .start) (p .size)
+programValue (unsignedInt x) = v.UnsignedInt x
+programValue (signedInt x) = v.SignedInt x
+
+pub value-back : (x : ApplicationDataValue) → programValue (valueOf x) ≡ x
+value-back (v.Boolean b) = refl
+value-back (v.Real x) = refl
+value-back (v.Double x) = refl
+value-back (v.Date d) = refl
+value-back (v.Time t) = refl
+value-back (v.ObjectId i) = refl
+value-back (v.CharacterString p n) = refl
+value-back (v.OctetString p n) = refl
+value-back (v.Enumerated x) = refl
+value-back (v.BitString u p n) = refl
+value-back (v.UnsignedInt x) = refl
+value-back (v.SignedInt x) = refl
+
+-- no two values are the same on paper
+pub single-value : (x y : ApplicationDataValue) → valueOf x ≡ valueOf y → x ≡ y
+single-value = told-apart valueOf programValue value-back
+
+abbrev read : Answer Value → ValueRead
+read (accepted x next) = r.Value (programValue x) next
+read (refused k c) = r.Refused (programRefusal (row k c))
+
+read-back : (x : ValueRead) → read (paperRead x) ≡ x
+read-back (r.Value x next) = ap (λ (y : ApplicationDataValue). r.Value y next) (value-back x)
+read-back (r.Refused x) = ap r.Refused (refusal-back x)
+
+pub single-read : (x y : ValueRead) → paperRead x ≡ paperRead y → x ≡ y
+single-read = told-apart paperRead read read-back
