@@ -7,7 +7,8 @@ use mathlib.Core.List.{List, _++_}
 use lib.ListN.{length, take, drop, length-append, length-drop}
 use lib.Seq.{drop-at, length-take-le}
 use Rattle.types.specs.Answer.{Answer, accepted, refused}
-use Rattle.types.specs.Writing.{Writable, Left, left, over, settled, writeAnswer, writing}
+use borrow.Author.Tests.{le-ltb}
+use Rattle.types.specs.Writing.{Writable, can, Left, left, over, settled, writeAnswer, writing}
 use Rattle.numbers.proofs.Inside.{Room, write-room}
 
 -- the bytes replaced others, inside a buffer that is not too long
@@ -39,3 +40,9 @@ module _ (bytes xs : List ℕ) (place : ℕ) (room : place + length bytes ≤ le
   -- and the buffer is as long as it was
   pub over-length : length (over xs place bytes) ≡ length xs
   over-length = simp (length-append, length-take-le place xs (omega arith), length-drop) (omega arith)
+
+-- bytes that fit are written whole
+pub write-fits : (lent : ℕ) (bytes xs : List ℕ) (place : ℕ) → lent ≤ 65535 → length xs ≤ 65535 → place + length bytes ≤ length xs → writing lent can bytes xs place ≡ left (accepted tt (place + length bytes)) (over xs place bytes)
+unfolding writing writeAnswer
+write-fits lent bytes xs place l small room =
+    simp (le-ltb 65535 (length xs) small, le-ltb 65535 lent l, le-ltb (length xs) place (omega arith), le-ltb (length xs) (place + length bytes) room)

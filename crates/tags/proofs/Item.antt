@@ -1,22 +1,19 @@
 -- An item is its header and its content: writing the two in turn, the content into the rest of the buffer, is writing both at once.
 -- Assumes nothing.
-use mathlib.Core.Path.{_≡_, refl, _∙_, ap, ap₂, sym, subst}
-use mathlib.Core.Bool.{Bool, true, false}
+use mathlib.Core.Path.{_≡_, refl, _∙_, ap, sym, subst}
 use Prim.Native.Nat.{ℕ, _+_, _-_, _≤_}
 use native.Mathlib.Nat.{add-assoc, zero-add}
 use native.Mathlib.Omega.{arith}
 use mathlib.Core.List.{List, [], _∷_, _++_, append-assoc, append-nil}
-use lib.Dec.{ltb}
 use lib.ListN.{length, take, drop, length-append, length-drop, drop-of-length-le}
 use lib.Seq.{take-at, drop-at, drop-drop, length-take-le, take-all}
-use borrow.Author.Tests.{ltb-false, le-ltb}
 use borrow.Rule.Slice.PartMut.{putMid}
 use Rattle.types.specs.Tag.{Number, Tag, tag}
 use Rattle.types.specs.Refusal.{Carried}
 use Rattle.types.specs.Answer.{Answer, accepted, refused}
 use Rattle.types.specs.Writing.{Left, left, over, can, settled, writeAnswer, writing}
 use Rattle.numbers.proofs.Inside.{Room, write-room}
-use Rattle.numbers.proofs.Wrote.{over-length}
+use Rattle.numbers.proofs.Wrote.{over-length, write-fits}
 use Rattle.tags.specs.Writing.{headerBytes, writableTag, begun, tagBefore}
 use Rattle.tags.specs.Item.{itemBytes, itemTo}
 
@@ -70,16 +67,13 @@ begun-room t content xs place next ys e =
 lent-rest : (p : ℕ) (ys : List ℕ) → take (length ys - p) (drop p ys) ≡ drop p ys
 lent-rest p ys = take-all (length ys - p) (drop p ys) (omega (arith, length-drop p ys))
 
+pub lent-length : (p : ℕ) (ys : List ℕ) → length (take (length ys - p) (drop p ys)) ≡ length ys - p
+lent-length p ys = ap length (lent-rest p ys) ∙ length-drop p ys
+
 put-back : (p : ℕ) (ys l : List ℕ) → p ≤ length ys → putMid p (length ys - p) ys l ≡ take p ys ++ l
 put-back p ys l h =
     let e : drop (length ys - p) (drop p ys) ≡ [] = drop-of-length-le (drop p ys) {i = length ys - p} (omega (arith, length-drop p ys)) in
     rw (e, append-nil)
-
--- content that fits is written whole
-written-whole : (lent : ℕ) (content zs : List ℕ) → lent ≤ 65535 → length zs ≤ 65535 → length content ≤ length zs → writing lent can content zs 0 ≡ left (accepted tt (0 + length content)) (over zs 0 content)
-unfolding writing writeAnswer
-written-whole lent content zs l s f =
-    simp (le-ltb 65535 (length zs) s, le-ltb 65535 lent l, le-ltb (length zs) 0 (omega arith), le-ltb (length zs) (0 + length content) (omega arith))
 
 module _ (n : Number) (content xs : List ℕ) (place : ℕ) where
   -- writing an item is writing its header, with room for the content, and then the content into the rest of the buffer
@@ -91,18 +85,27 @@ module _ (n : Number) (content xs : List ℕ) (place : ℕ) where
       (by-parts (headerBytes t) content xs place (writeAnswer 0 (writableTag t) (length (headerBytes t) + length content) xs place)
       (write-room 0 (writableTag t) (length (headerBytes t) + length content) xs place))
 
-  -- so a writer that does so has written the item
+  -- so a writer that leaves the content at the front of the rest has written the item
+  pub item-filled : (next : ℕ) (ys : List ℕ) → tagBefore (tag n (length content)) (length content) xs place ≡ left (accepted tt next) ys
+      → (zs : List ℕ) → zs ≡ over (take (length ys - next) (drop next ys)) 0 content
+      → (len : ℕ) → length content ≡ len → left (accepted tt (next + len)) (putMid next (length ys - next) ys zs) ≡ itemTo n content xs place
+  item-filled next ys e zs z len sized =
+      let r = begun-room (tag n (length content)) (length content) xs place next ys e in
+      ap (λ (k : ℕ). left (accepted tt (next + k)) (putMid next (length ys - next) ys zs)) (sym sized)
+      ∙ ap (left (accepted tt (next + length content))) (put-back next ys zs (omega arith) ∙ ap (λ (ts : List ℕ). take next ys ++ ts) (z ∙ ap (λ (ts : List ℕ). over ts 0 content) (lent-rest next ys)))
+      ∙ sym (item-by-parts ∙ ap (λ (l : Left). followed content (l .buffer) (l .answer)) e)
+
+  -- as one does that writes it there
   pub item-written : (next : ℕ) (ys : List ℕ) → tagBefore (tag n (length content)) (length content) xs place ≡ left (accepted tt next) ys
       → (lent : ℕ) → lent ≤ 65535 → (a : Answer (Unit {0})) (zs bytes : List ℕ) → left a zs ≡ writing lent can bytes (take (length ys - next) (drop next ys)) 0 → bytes ≡ content
       → (len : ℕ) → length content ≡ len → left (accepted tt (next + len)) (putMid next (length ys - next) ys zs) ≡ itemTo n content xs place
   item-written next ys e lent small a zs bytes w same len sized =
       let r = begun-room (tag n (length content)) (length content) xs place next ys e in
-      let d : length (drop next ys) ≡ length ys - next = length-drop next ys in
-      let z : zs ≡ over (drop next ys) 0 content =
-      ap (λ (l : Left). l .buffer) (w ∙ ap₂ (λ (bs ts : List ℕ). writing lent can bs ts 0) same (lent-rest next ys) ∙ written-whole lent content (drop next ys) small (omega arith) (omega arith)) in
-      ap (λ (k : ℕ). left (accepted tt (next + k)) (putMid next (length ys - next) ys zs)) (sym sized)
-      ∙ ap (left (accepted tt (next + length content))) (put-back next ys zs (omega arith) ∙ ap (λ (ts : List ℕ). take next ys ++ ts) z)
-      ∙ sym (item-by-parts ∙ ap (λ (l : Left). followed content (l .buffer) (l .answer)) e)
+      let rest : List ℕ = take (length ys - next) (drop next ys) in
+      let d : length rest ≡ length ys - next = lent-length next ys in
+      item-filled next ys e zs
+      (ap (λ (l : Left). l .buffer) (w ∙ ap (λ (bs : List ℕ). writing lent can bs rest 0) same ∙ write-fits lent content rest 0 small (omega arith) (omega arith)))
+      len sized
 
   -- and one whose header was refused is refused
   pub item-refused : (k : ℕ) (c : Carried) (ys : List ℕ) → tagBefore (tag n (length content)) (length content) xs place ≡ left (refused k c) ys → left (refused k c) ys ≡ itemTo n content xs place

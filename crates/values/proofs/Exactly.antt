@@ -255,16 +255,19 @@ value-or xs place =
     (λ n c e. tt)
   where
     go : (t : Tag) (after : ℕ) → TagFound xs place t after → (a : Answer Value) → Or t xs after a → ValueOr xs place a
-    go t after f (accepted v next) c = (f .small, record {
-      found = t;
-      header = f .bytes;
-      is-tag = f .is-tag;
-      content = c .bytes;
-      is = subst (λ (p : ℕ). Content t p (c .bytes) v) (f .ends) (c .is);
-      rest = drop next xs;
-      here = f .here ∙ ap (λ (l : List ℕ). f .bytes ++ l) (c .here);
-      ends = omega (arith, f .ends, c .ends);
-    })
+    go t after f (accepted v next) c = (
+      f .small,
+      record {
+        found = t;
+        header = f .bytes;
+        is-tag = f .is-tag;
+        content = c .bytes;
+        is = subst (λ (p : ℕ). Content t p (c .bytes) v) (f .ends) (c .is);
+        rest = drop next xs;
+        here = f .here ∙ ap (λ (l : List ℕ). f .bytes ++ l) (c .here);
+        ends = omega (arith, f .ends, c .ends);
+      },
+    )
     go t after f (refused n d) c = tt
 
 -- content that stands at a place is read there

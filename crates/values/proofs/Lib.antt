@@ -2,3 +2,4 @@ pub mod Patterns
 pub mod Exactly
 pub mod Single
 pub mod Examples
+pub mod Writable

@@ -3,7 +3,8 @@
 use mathlib.Core.Path.{_≡_, refl, sym, _∙_}
 use mathlib.Core.Bool.{true, false}
 use Prim.Native.Nat.{ℕ, _*_, _%_, _≤_, _<_}
-use lib.Ieee.{Float, nan, inf, fin, Format, isNan, nanBits, ofBits, top, ones, hid}
+use lib.Ieee.{Float, nan, inf, fin, Format, isNan, nanBits, ofBits, top, ones, hid, ne}
+use lib.Ieee.Compare.{nan-differs}
 use lib.Ieee.Bits.{nanBits-is, nanBits-above}
 use borrow.Author.Tests.{lt-ltb, le-ltb}
 
@@ -19,3 +20,9 @@ above-nan f n h = is-nan (ofBits f n) (sym (nanBits-is f n) ∙ nanBits-above f 
 
 pub below-real : (f : Format) (n : ℕ) → n % top f ≤ ones f * hid f → nanBits f n ≡ false
 below-real f n h = nanBits-above f n ∙ le-ltb _ _ h
+
+pub same-real : (x : Float) → ne x x ≡ false → isNan x ≡ false
+unfolding isNan
+same-real nan e = sym nan-differs ∙ e
+same-real (inf s) e = refl
+same-real (fin s m k) e = refl

@@ -1,12 +1,19 @@
-// Application values: the twelve cases, read at a place of a buffer.
+// Application values: the twelve cases, read and written at a place of a buffer.
+mod bytes;
 mod float;
 mod reading;
 mod text;
 mod value;
+mod writing;
 
-pub use reading::decode;
 pub use reading::ValueRead;
+pub use reading::decode;
 pub use value::ApplicationDataValue;
 pub use value::Date;
 pub use value::ObjectId;
 pub use value::Time;
+pub use writing::encode;
+
+// Single bytes and lent slices are read and written by the layers below: handed on to the layer above.
+pub use tags::extend_from_slice;
+pub use tags::read_byte;

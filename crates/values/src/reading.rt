@@ -90,7 +90,10 @@ fn unsigned(len: u32, buf: &[u8], place: usize) -> ValueRead
     ensures { λ r. ⌜ paperRead r ≡ unsignedUnder len (now (buf .entry)) place ⌝ }
 {
     match tags::decode_unsigned(len, buf, place) {
-        UnsignedRead::Unsigned(value, next) => ValueRead::Value(ApplicationDataValue::UnsignedInt(value), next),
+        UnsignedRead::Unsigned(value, next) => ValueRead::Value(
+            ApplicationDataValue::UnsignedInt(value),
+            next,
+        ),
         UnsignedRead::Refused(r) => ValueRead::Refused(r),
     }
 }
@@ -100,7 +103,10 @@ fn signed(len: u32, buf: &[u8], place: usize) -> ValueRead
     ensures { λ r. ⌜ paperRead r ≡ signedUnder len (now (buf .entry)) place ⌝ }
 {
     match tags::decode_signed(len, buf, place) {
-        SignedRead::Signed(value, next) => ValueRead::Value(ApplicationDataValue::SignedInt(value), next),
+        SignedRead::Signed(value, next) => ValueRead::Value(
+            ApplicationDataValue::SignedInt(value),
+            next,
+        ),
         SignedRead::Refused(r) => ValueRead::Refused(r),
     }
 }
@@ -111,13 +117,19 @@ fn real(len: u32, buf: &[u8], place: usize) -> ValueRead
 {
     if len == 4 {
         return match tags::read_four_bytes(buf, place) {
-            WordRead::Word(bits, next) => ValueRead::Value(ApplicationDataValue::Real(real_of(bits)), next),
+            WordRead::Word(bits, next) => ValueRead::Value(
+                ApplicationDataValue::Real(real_of(bits)),
+                next,
+            ),
             WordRead::Refused(r) => ValueRead::Refused(r),
         };
     }
     if len == 8 {
         return match tags::read_eight_bytes(buf, place) {
-            UnsignedRead::Unsigned(bits, next) => ValueRead::Value(ApplicationDataValue::Double(double_of(bits)), next),
+            UnsignedRead::Unsigned(bits, next) => ValueRead::Value(
+                ApplicationDataValue::Double(double_of(bits)),
+                next,
+            ),
             UnsignedRead::Refused(r) => ValueRead::Refused(r),
         };
     }
@@ -129,8 +141,18 @@ fn octets(len: u32, buf: &[u8], place: usize) -> ValueRead
     ensures { λ r. ⌜ paperRead r ≡ octetsUnder len (now (buf .entry)) place ⌝ }
 {
     match tags::read_slice(len, buf, place) {
-        SliceRead::Slice { start, len: size, next } => {
-            ValueRead::Value(ApplicationDataValue::OctetString { place: start, len: size }, next)
+        SliceRead::Slice {
+            start,
+            len: size,
+            next,
+        } => {
+            ValueRead::Value(
+                ApplicationDataValue::OctetString {
+                    place: start,
+                    len: size,
+                },
+                next,
+            )
         }
         SliceRead::Refused(r) => ValueRead::Refused(r),
     }
@@ -145,8 +167,19 @@ fn bits(len: u32, buf: &[u8], place: usize) -> ValueRead
     }
     match tags::read_byte(buf, place) {
         ByteRead::Byte(unused_bits, after) => match tags::read_slice(len - 1, buf, after) {
-            SliceRead::Slice { start, len: size, next } => {
-                ValueRead::Value(ApplicationDataValue::BitString { unused_bits, place: start, len: size }, next)
+            SliceRead::Slice {
+                start,
+                len: size,
+                next,
+            } => {
+                ValueRead::Value(
+                    ApplicationDataValue::BitString {
+                        unused_bits,
+                        place: start,
+                        len: size,
+                    },
+                    next,
+                )
             }
             SliceRead::Refused(r) => ValueRead::Refused(r),
         },
@@ -177,7 +210,11 @@ fn date(len: u32, buf: &[u8], place: usize) -> ValueRead
         return ValueRead::Refused(Refusal::LengthNotAllowed(len));
     }
     match tags::read_slice(4, buf, place) {
-        SliceRead::Slice { start, len: _, next } => {
+        SliceRead::Slice {
+            start,
+            len: _,
+            next,
+        } => {
             let date = Date {
                 year: year_of(buf[start]),
                 month: buf[start + 1],

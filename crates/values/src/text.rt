@@ -24,7 +24,11 @@ pub(crate) fn text(len: u32, buf: &[u8], place: usize) -> ValueRead
                 return ValueRead::Refused(Refusal::OtherCharacterSet(set));
             }
             match tags::read_slice(len - 1, buf, after) {
-                SliceRead::Slice { start, len: size, next } => checked(start, size, buf, next),
+                SliceRead::Slice {
+                    start,
+                    len: size,
+                    next,
+                } => checked(start, size, buf, next),
                 SliceRead::Refused(r) => ValueRead::Refused(r),
             }
         }
@@ -38,7 +42,13 @@ fn checked(start: usize, size: u32, buf: &[u8], next: usize) -> ValueRead
     ensures { λ r. ⌜ paperRead r ≡ textIn (now (buf .entry)) (partAt start size) next ⌝ }
 {
     match utf8::check(&buf[start..next]) {
-        Checked::Good => ValueRead::Value(ApplicationDataValue::CharacterString { place: start, len: size }, next),
+        Checked::Good => ValueRead::Value(
+            ApplicationDataValue::CharacterString {
+                place: start,
+                len: size,
+            },
+            next,
+        ),
         Checked::BadAt(bad) => ValueRead::Refused(Refusal::TextNotUtf8(bad)),
     }
 }

@@ -30,10 +30,20 @@ pub enum ApplicationDataValue {
     Date(Date),
     Time(Time),
     ObjectId(ObjectId),
-    CharacterString { place: usize, len: u32 },
-    OctetString { place: usize, len: u32 },
+    CharacterString {
+        place: usize,
+        len: u32,
+    },
+    OctetString {
+        place: usize,
+        len: u32,
+    },
     Enumerated(u32),
-    BitString { unused_bits: u8, place: usize, len: u32 },
+    BitString {
+        unused_bits: u8,
+        place: usize,
+        len: u32,
+    },
     UnsignedInt(u64),
     SignedInt(i64),
 }

@@ -1,0 +1,39 @@
+-- Document 01's examples of bodies, and those of its readings, by one statement over their list, which antt computes.
+-- Assumes nothing.
+use mathlib.Core.Path.{_≡_, refl}
+use mathlib.Core.List.{List, [], _∷_}
+use Rattle.types.specs.Tag.{application, context, opening, tag}
+use Rattle.types.specs.Refusal.{amount, tagFound}
+use Rattle.types.specs.Answer.{refused}
+use Rattle.numbers.specs.Reading.{byteFrom, sliceFrom, fixedFrom}
+use Rattle.tags.specs.Reading.{numberFrom, valueFrom, tagAfter, tagFrom, expectedFrom}
+use Rattle.bodies.specs.Scan.{Counted, counted, handed, unread, stepAfter, stepFrom, scanFrom, bodyFrom, bodyForFrom}
+use Rattle.bodies.specs.View.{viewOf}
+
+-- two items and a closing tag; an allowance that is too small; a Boolean, whose value is no length; a closing of another number;
+-- an opening without its closing; content that passes the end, with and without allowance left; no items; an allowance of 0; no opening; no bytes; a place past the end
+abbrev pub asked : List Counted
+asked =
+    bodyFrom 4 (0x3E ∷ 0x21 ∷ 0x07 ∷ 0x3F ∷ []) 0 ∷ bodyFrom 1 (0x3E ∷ 0x21 ∷ 0x07 ∷ 0x3F ∷ []) 0
+    ∷ bodyFrom 4 (0x3E ∷ 0x15 ∷ 0x3F ∷ 0x3F ∷ []) 0 ∷ bodyFrom 3 (0x3E ∷ 0x2F ∷ 0x3F ∷ []) 0
+    ∷ bodyFrom 3 (0x3E ∷ 0x3E ∷ 0x3F ∷ []) 0
+    ∷ bodyFrom 4 (0x3E ∷ 0x24 ∷ 0x00 ∷ 0x3F ∷ []) 0 ∷ bodyFrom 1 (0x3E ∷ 0x24 ∷ 0x00 ∷ 0x3F ∷ []) 0
+    ∷ bodyFrom 2 (0x3E ∷ 0x3F ∷ []) 0
+    ∷ bodyFrom 0 (0x3E ∷ []) 0 ∷ bodyFrom 0 (0x21 ∷ 0x07 ∷ []) 0 ∷ bodyFrom 0 [] 0 ∷ bodyFrom 0 [] 1
+    ∷ bodyForFrom 3 4 (0x3E ∷ 0x21 ∷ 0x07 ∷ 0x3F ∷ []) 0 ∷ bodyForFrom 4 4 (0x3E ∷ 0x21 ∷ 0x07 ∷ 0x3F ∷ []) 0
+    ∷ bodyForFrom 16 4 (0xFE ∷ 0x10 ∷ 0xFF ∷ 0x10 ∷ []) 0 ∷ []
+
+abbrev pub answered : List Counted
+answered =
+    handed 1 2 3 4 2 ∷ counted (refused 14 (amount 1)) 1
+    ∷ handed 1 2 3 4 2 ∷ handed 1 1 3 3 2
+    ∷ counted (refused 3 (amount 3)) 2
+    ∷ counted (refused 3 (amount 4)) 1 ∷ counted (refused 14 (amount 1)) 1
+    ∷ handed 1 0 3 2 1
+    ∷ unread 14 (amount 0) ∷ unread 6 (tagFound (tag (application 2) 1)) ∷ unread 3 (amount 0) ∷ unread 2 (amount 1)
+    ∷ handed 1 2 3 4 2 ∷ unread 4 (tagFound (tag (opening 3) 0))
+    ∷ unread 4 (tagFound (tag (context 16) 0)) ∷ []
+
+pub edges : (asked ≡ answered) × (viewOf 1 2 (0x3E ∷ 0x21 ∷ 0x07 ∷ 0x3F ∷ []) ≡ 0x21 ∷ 0x07 ∷ [])
+unfolding byteFrom sliceFrom fixedFrom numberFrom valueFrom tagAfter tagFrom expectedFrom stepAfter stepFrom scanFrom bodyFrom bodyForFrom viewOf
+edges = (refl, refl)

@@ -1,0 +1,14 @@
+pub mod Turns
+pub mod Balance
+pub mod Steps
+pub mod Scanned
+pub mod Places
+pub mod Ways
+pub mod Refusals
+pub mod Exactly
+pub mod Counts
+pub mod Allowance
+pub mod ForTag
+pub mod NoBody
+pub mod Single
+pub mod Examples

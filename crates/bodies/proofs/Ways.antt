@@ -1,0 +1,71 @@
+-- The ways in which asking for a body goes: an opening is found and the scan answers, another tag is found, or no tag is read.
+-- Assumes nothing.
+use Prim.Native.Nat.{ℕ}
+use mathlib.Core.Path.{_≡_, refl, ap, _∙_}
+use mathlib.Core.Bool.{Bool, true, false}
+use mathlib.Core.List.{List}
+use native.Mathlib.Omega.{arith}
+use borrow.Author.Tests.{eqb-true, eqb-false}
+use Rattle.types.specs.Choice.{if}
+use Rattle.types.specs.Tag.{Number, application, context, opening, closing, Tag, tag}
+use Rattle.types.specs.Refusal.{Carried, tagFound}
+use Rattle.types.specs.Answer.{Answer, accepted, refused, then}
+use Rattle.tags.specs.Reading.{tagFrom, expectedFrom, sameNumber}
+use Rattle.tags.proofs.Exactly.{tag-found, block-has-no-value}
+use Rattle.bodies.specs.Scan.{Counted, unread, scanned, bodyBy, bodyOf, bodyFrom, bodyForOf, bodyForFrom}
+
+-- an opening that was read has no value
+valueless : (xs : List ℕ) (place n v next : ℕ) → tagFrom xs place ≡ accepted (tag (opening n) v) next → tagFrom xs place ≡ accepted (tag (opening n) 0) next
+valueless xs place n v next e =
+    let z : v ≡ 0 = block-has-no-value (tag-found xs place (tag (opening n) v) next e .is-tag) in
+    cc
+
+-- what holds in each of the three ways holds of what `get_tagged_body` answers
+module _ (P : Counted → Type 0) (allowance : ℕ) (xs : List ℕ) (place : ℕ)
+    (opened : (n next : ℕ) → tagFrom xs place ≡ accepted (tag (opening n) 0) next → P (scanned allowance n xs next))
+    (other : (t : Tag) (next : ℕ) → tagFrom xs place ≡ accepted t next → ((n : ℕ) → t .number ≡ opening n → ⊥) → P (unread 6 (tagFound t)))
+    (not-read : (r : ℕ) (c : Carried) → tagFrom xs place ≡ refused r c → P (unread r c)) where
+  by-number : (m : Number) (v next : ℕ) → tagFrom xs place ≡ accepted (tag m v) next → P (bodyBy allowance m (tag m v) xs next)
+  by-number (opening n) v next e = opened n next (valueless xs place n v next e)
+  by-number (closing n) v next e = other (tag (closing n) v) next e (λ m f. let z : _≡_ {A = ℕ} 0 1 = cc in omega arith)
+  by-number (application n) v next e = other (tag (application n) v) next e (λ m f. let z : _≡_ {A = ℕ} 0 1 = cc in omega arith)
+  by-number (context n) v next e = other (tag (context n) v) next e (λ m f. let z : _≡_ {A = ℕ} 0 1 = cc in omega arith)
+
+  by-tag : (a : Answer Tag) → tagFrom xs place ≡ a → P (bodyOf allowance xs a)
+  by-tag (accepted t next) e = by-number (t .number) (t .value) next e
+  by-tag (refused r c) e = not-read r c e
+
+  pub body-ways : P (bodyFrom allowance xs place)
+  unfolding bodyFrom
+  body-ways = by-tag (tagFrom xs place) refl
+
+-- the number expected, or another
+is-opening : (expected : ℕ) (m : Number) → sameNumber m (opening expected) ≡ true → m ≡ opening expected
+is-opening expected (opening n) e = ap opening (eqb-true n expected e)
+is-opening expected (closing n) e = let z : _≡_ {A = ℕ} 0 1 = cc in absurd (omega arith)
+is-opening expected (application n) e = let z : _≡_ {A = ℕ} 0 1 = cc in absurd (omega arith)
+is-opening expected (context n) e = let z : _≡_ {A = ℕ} 0 1 = cc in absurd (omega arith)
+
+is-another : (expected : ℕ) (m : Number) → sameNumber m (opening expected) ≡ false → m ≡ opening expected → ⊥
+is-another expected (opening n) e f = let i : n ≡ expected = cc in eqb-false n expected e i
+is-another expected (closing n) e f = let z : _≡_ {A = ℕ} 0 1 = cc in omega arith
+is-another expected (application n) e f = let z : _≡_ {A = ℕ} 0 1 = cc in omega arith
+is-another expected (context n) e f = let z : _≡_ {A = ℕ} 0 1 = cc in omega arith
+
+-- what holds in each of the three ways holds of what `get_tagged_body_for_tag` answers
+module _ (P : Counted → Type 0) (expected allowance : ℕ) (xs : List ℕ) (place : ℕ)
+    (opened : (next : ℕ) → tagFrom xs place ≡ accepted (tag (opening expected) 0) next → P (scanned allowance expected xs next))
+    (other : (t : Tag) (next : ℕ) → tagFrom xs place ≡ accepted t next → (t .number ≡ opening expected → ⊥) → P (unread 4 (tagFound t)))
+    (not-read : (r : ℕ) (c : Carried) → tagFrom xs place ≡ refused r c → P (unread r c)) where
+  by-test : (m : Number) (v next : ℕ) → tagFrom xs place ≡ accepted (tag m v) next → (same : Bool) → sameNumber m (opening expected) ≡ same
+      → P (bodyForOf expected allowance xs (if same (accepted (tag m v) next) (refused 4 (tagFound (tag m v)))))
+  by-test m v next e true s = opened next (valueless xs place expected v next (e ∙ ap (λ (k : Number). accepted (tag k v) next) (is-opening expected m s)))
+  by-test m v next e false s = other (tag m v) next e (is-another expected m s)
+
+  by-expected : (a : Answer Tag) → tagFrom xs place ≡ a → P (bodyForOf expected allowance xs (then a (λ t next. if (sameNumber (t .number) (opening expected)) (accepted t next) (refused 4 (tagFound t)))))
+  by-expected (accepted t next) e = by-test (t .number) (t .value) next e (sameNumber (t .number) (opening expected)) refl
+  by-expected (refused r c) e = not-read r c e
+
+  pub body-for-ways : P (bodyForFrom expected allowance xs place)
+  unfolding bodyForFrom expectedFrom
+  body-for-ways = by-expected (tagFrom xs place) refl

@@ -1,0 +1,6 @@
+pub mod Item
+pub mod Body
+pub mod Scan
+pub mod View
+pub mod Count
+pub mod Given

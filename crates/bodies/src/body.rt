@@ -1,0 +1,73 @@
+// Tagged bodies: what stands between an opening tag and its closing tag.
+ghost use mathlib.Core.Path.{_≡_};
+ghost use Rattle.types.specs.Refusal.{table};
+ghost use Rattle.bodies.specs.Scan.{paperBody, unread, bodyFrom, bodyForFrom};
+ghost use Rattle.bodies.specs.View.{viewOf};
+use crate::scan::scan;
+use tags::TagRead;
+use types::Refusal;
+use types::TagNumber;
+
+// Where a body lies, its number and the place after its closing tag; and how many tags were read after the opening.
+pub enum BodyRead {
+    Body {
+        start: usize,
+        len: usize,
+        number: u8,
+        next: usize,
+        tags: usize,
+    },
+    Refused {
+        refusal: Refusal,
+        tags: usize,
+    },
+}
+
+// The body whose opening tag is at a place.
+pub fn get_tagged_body(allowance: usize, buf: &[u8], place: usize) -> BodyRead
+    ensures { λ r. ⌜ paperBody r ≡ bodyFrom allowance (now (buf .entry)) place ⌝ }
+{
+    match tags::decode(buf, place) {
+        TagRead::Read(tag, next) => {
+            let found = tag.number;
+            match found {
+                TagNumber::ContextSpecificOpening(number) => scan(number, allowance, buf, next),
+                TagNumber::ContextSpecificClosing(_) => unread(Refusal::NoOpeningTag(tag)),
+                TagNumber::Application(_) => unread(Refusal::NoOpeningTag(tag)),
+                TagNumber::ContextSpecific(_) => unread(Refusal::NoOpeningTag(tag)),
+            }
+        }
+        TagRead::Refused(refusal) => unread(refusal),
+    }
+}
+
+// The body whose opening tag, of the number expected, is at a place.
+pub fn get_tagged_body_for_tag(expected: u8, allowance: usize, buf: &[u8], place: usize) -> BodyRead
+    ensures { λ r. ⌜ paperBody r ≡ bodyForFrom expected allowance (now (buf .entry)) place ⌝ }
+{
+    match tags::decode_expected(TagNumber::ContextSpecificOpening(expected), buf, place) {
+        TagRead::Read(_, next) => scan(expected, allowance, buf, next),
+        TagRead::Refused(refusal) => unread(refusal),
+    }
+}
+
+// A refusal before any tag after the opening was read.
+fn unread(refusal: Refusal) -> BodyRead
+    ensures { λ r. ⌜ paperBody r ≡ unread (table refusal .number) (table refusal .carries) ⌝ }
+{
+    BodyRead::Refused { refusal, tags: 0 }
+}
+
+// That part of the buffer; empty where it does not lie inside.
+pub fn view(start: usize, len: usize, buf: &[u8]) -> &[u8]
+    ensures { λ r. ⌜ now r ≡ viewOf start len (now (buf .entry)) ⌝ }
+{
+    if buf.len() < start {
+        return &buf[0..0];
+    }
+    if buf.len() - start < len {
+        return &buf[0..0];
+    }
+    let end = start + len;
+    &buf[start..end]
+}

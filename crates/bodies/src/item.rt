@@ -1,0 +1,26 @@
+// An item: a tag and its content.
+ghost use mathlib.Core.Path.{_≡_};
+ghost use Prim.Native.Nat.{_^_, _<_};
+ghost use Rattle.types.specs.Tag.{tagOf};
+ghost use Rattle.bodies.specs.Item.{contentLength};
+use types::Tag;
+use types::TagNumber;
+
+// The number of bytes of content that follow a tag.
+pub fn content_length(tag: Tag) -> usize
+    ensures { λ r. ⌜ r ≡ contentLength (tagOf tag) ⌝ }
+    ensures { λ r. ⌜ r < 2 ^ 32 ⌝ }
+{
+    let value = tag.value;
+    let number = tag.number;
+    match number {
+        TagNumber::Application(name) => if name.number() == 1 {
+            0
+        } else {
+            value as usize
+        },
+        TagNumber::ContextSpecific(_) => value as usize,
+        TagNumber::ContextSpecificOpening(_) => 0,
+        TagNumber::ContextSpecificClosing(_) => 0,
+    }
+}

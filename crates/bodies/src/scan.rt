@@ -1,0 +1,99 @@
+// The scan for the closing tag of a body.
+ghost use mathlib.Core.Path.{_≡_};
+ghost use Prim.Native.Nat.{_+_, _<_, _^_};
+ghost use Rattle.types.specs.Tag.{tagOf};
+ghost use Rattle.bodies.specs.Scan.{paperStep, stepAfter, stepFrom, paperBody, scanFrom};
+use crate::body::BodyRead;
+use crate::item::content_length;
+use tags::TagRead;
+use types::Refusal;
+use types::Tag;
+use types::TagNumber;
+
+// What the next tag means for a scan: a refusal, the body's closing tag with the place after it, or an item with the depth and the place after it.
+enum Step {
+    Refused(Refusal),
+    Closed(usize),
+    Onward { depth: usize, place: usize },
+}
+
+// What a tag that was read means for the scan of a body of that number, where so many more of its openings than closings were passed.
+fn step_after(number: u8, depth: usize, tag: Tag, next: usize) -> Step
+    requires { ⌜ (depth + 1 < 2 ^ 64) × (next + 2 ^ 32 < 2 ^ 64) ⌝ }
+    ensures { λ r. ⌜ paperStep r ≡ stepAfter number depth (tagOf tag) next ⌝ }
+{
+    let place = next + content_length(tag);
+    let found = tag.number;
+    match found {
+        TagNumber::ContextSpecificOpening(n) => if n == number {
+            Step::Onward {
+                depth: depth + 1,
+                place,
+            }
+        } else {
+            Step::Onward { depth, place }
+        },
+        TagNumber::ContextSpecificClosing(n) => if n == number {
+            if depth == 0 {
+                Step::Closed(next)
+            } else {
+                Step::Onward {
+                    depth: depth - 1,
+                    place,
+                }
+            }
+        } else {
+            Step::Onward { depth, place }
+        },
+        TagNumber::Application(_) => Step::Onward { depth, place },
+        TagNumber::ContextSpecific(_) => Step::Onward { depth, place },
+    }
+}
+
+// What the tag at a place, which may be past the end, means for the scan.
+fn step_at(number: u8, depth: usize, buf: &[u8], place: usize) -> Step
+    requires { ⌜ depth + 1 < 2 ^ 64 ⌝ }
+    ensures { λ r. ⌜ paperStep r ≡ stepFrom number depth (now (buf .entry)) place ⌝ }
+{
+    if buf.len() < place {
+        return Step::Refused(Refusal::BytesRunOut(buf.len()));
+    }
+    match tags::decode(buf, place) {
+        TagRead::Read(tag, next) => step_after(number, depth, tag, next),
+        TagRead::Refused(r) => Step::Refused(r),
+    }
+}
+
+// The body of that number whose first item is at a start.
+pub(crate) fn scan(number: u8, allowance: usize, buf: &[u8], start: usize) -> BodyRead
+    ensures { λ r. ⌜ paperBody r ≡ scanFrom allowance number start 0 0 (now (buf .entry)) start ⌝ }
+{
+    let mut place = start;
+    let mut depth: usize = 0;
+    let mut tags: usize = 0;
+    while tags < allowance {
+        match step_at(number, depth, buf, place) {
+            Step::Refused(refusal) => {
+                return BodyRead::Refused { refusal, tags };
+            }
+            Step::Closed(next) => {
+                return BodyRead::Body {
+                    start,
+                    len: place - start,
+                    number,
+                    next,
+                    tags: tags + 1,
+                };
+            }
+            Step::Onward { depth: d, place: p } => {
+                depth = d;
+                place = p;
+            }
+        }
+        tags += 1;
+    }
+    BodyRead::Refused {
+        refusal: Refusal::AllowanceSpent(tags),
+        tags,
+    }
+}
