@@ -3,3 +3,4 @@ pub mod Exactly
 pub mod Single
 pub mod Examples
 pub mod Writable
+pub mod Back

@@ -1,0 +1,230 @@
+-- What is written reads back as the same value, with the next place at its end.
+-- Assumes nothing.
+use mathlib.Core.Path.{_≡_, refl, _∙_, ap, sym, subst, subst₂}
+use mathlib.Core.Bool.{Bool, true, false}
+use Prim.Native.Nat.{ℕ, suc, _+_, _-_, _*_, _/_, _%_, _^_, _<_, _≤_}
+use native.Mathlib.Omega.{arith}
+use mathlib.Core.List.{List, [], _∷_, _++_, append-assoc, append-nil}
+use lib.Dec.{T, ltb}
+use lib.ListN.{length, drop, length-append}
+use lib.IntN.{ℤ}
+use lib.Signed.{mag}
+use lib.Ieee.{Float, binary32, binary64, fits, toBits, ofBits, top}
+use lib.Ieee.Bits.{ofBits-toBits, toBits-lt}
+use borrow.Author.Tests.{ltb-false}
+use Rattle.types.specs.Tag.{application, Tag, tag}
+use Rattle.types.specs.Choice.{if}
+use Rattle.types.specs.Refusal.{amount}
+use Rattle.types.specs.Answer.{Answer, accepted, refused}
+use Rattle.types.specs.Writing.{Left, left, over, Writable, can, cannot, unless, settled, writeAnswer, writing}
+use Rattle.types.proofs.Choices.{either}
+use Rattle.numbers.specs.Integer.{lowBytes, unsignedValue, signedValue, unsignedBytes, signedBytes}
+use Rattle.numbers.specs.Reading.{partAt}
+use Rattle.numbers.proofs.Low.{low-bytes-stand}
+use Rattle.numbers.proofs.Shortest.{unsigned-shortest, signed-shortest}
+use Rattle.numbers.proofs.Wrote.{wrote, written-here, over-length}
+use Rattle.tags.specs.Writing.{headerBytes}
+use Rattle.tags.specs.Item.{booleanByte}
+use Rattle.tags.proofs.Range.{InRange}
+use Rattle.tags.proofs.Back.{header-is-tag}
+use Rattle.utf8.specs.Check.{Verdict, good, badAt, checkOf}
+use Rattle.utf8.proofs.Exactly.{good-exactly}
+use Rattle.values.specs.Value.{Value, boolean, real, double, onDate, atTime, objectId, characterString, octetString, enumerated, bitString, unsignedInt, signedInt, date}
+use Rattle.values.specs.Reading.{valueFrom}
+use Rattle.values.specs.Writing.{dateBytes, timeBytes, bytesOf, valueBytes, textBy, textWritable, writableValue, valueTo}
+use Rattle.values.specs.Content.{Content, ofBoolean, ofUnsigned, ofSigned, ofReal, ofDouble, ofOctetString, ofText, ofBitString, ofEnumerated, ofDate, ofTime, ofObjectId}
+use Rattle.values.proofs.Exactly.{ValueAt, read-exactly}
+use Rattle.values.proofs.Writable.{date-fits, id-fits}
+
+-- the value as it reads back where its content begins at a place: text, octets and bits are the part that holds the lent bytes
+abbrev pub placed : Value → ℕ → List ℕ → Value
+placed (boolean b) p lent = boolean b
+placed (real x) p lent = real x
+placed (double x) p lent = double x
+placed (onDate d) p lent = onDate d
+placed (atTime t) p lent = atTime t
+placed (objectId n i) p lent = objectId n i
+placed (characterString q) p lent = characterString (partAt (p + 1) (length lent))
+placed (octetString q) p lent = octetString (partAt p (length lent))
+placed (enumerated x) p lent = enumerated x
+placed (bitString u q) p lent = bitString u (partAt (p + 1) (length lent))
+placed (unsignedInt x) p lent = unsignedInt x
+placed (signedInt x) p lent = signedInt x
+
+-- a value that the program can hold: integers of their widths, floats of their formats
+abbrev pub Held : Value → Type 0
+Held (boolean b) = Unit {0}
+Held (real x) = T (fits binary32 x)
+Held (double x) = T (fits binary64 x)
+Held (onDate d) = Unit {0}
+Held (atTime t) = Unit {0}
+Held (objectId n i) = Unit {0}
+Held (characterString q) = Unit {0}
+Held (octetString q) = Unit {0}
+Held (enumerated x) = x ≤ 4294967295
+Held (bitString u q) = Unit {0}
+Held (unsignedInt x) = x < 2 ^ 64
+Held (signedInt x) = mag x < 2 ^ 63
+
+-- the tag that a value is written under, and its content
+abbrev tagUnder : Value → List ℕ → Tag
+tagUnder (boolean b) lent = tag (application 1) (booleanByte b)
+tagUnder (unsignedInt x) lent = tag (application 2) (length (unsignedBytes x))
+tagUnder (signedInt x) lent = tag (application 3) (length (signedBytes x))
+tagUnder (real x) lent = tag (application 4) 4
+tagUnder (double x) lent = tag (application 4) 8
+tagUnder (octetString p) lent = tag (application 6) (length lent)
+tagUnder (characterString p) lent = tag (application 7) (suc (length lent))
+tagUnder (bitString u p) lent = tag (application 8) (suc (length lent))
+tagUnder (enumerated x) lent = tag (application 9) (length (unsignedBytes x))
+tagUnder (onDate d) lent = tag (application 10) 4
+tagUnder (atTime t) lent = tag (application 11) 4
+tagUnder (objectId n i) lent = tag (application 12) 4
+
+abbrev contentUnder : Value → List ℕ → List ℕ
+contentUnder (boolean b) lent = []
+contentUnder (unsignedInt x) lent = unsignedBytes x
+contentUnder (signedInt x) lent = signedBytes x
+contentUnder (real x) lent = lowBytes 4 (toBits binary32 x)
+contentUnder (double x) lent = lowBytes 8 (toBits binary64 x)
+contentUnder (octetString p) lent = lent
+contentUnder (characterString p) lent = 0 ∷ lent
+contentUnder (bitString u p) lent = u ∷ lent
+contentUnder (enumerated x) lent = unsignedBytes x
+contentUnder (onDate d) lent = dateBytes d
+contentUnder (atTime t) lent = timeBytes t
+contentUnder (objectId n i) lent = lowBytes 4 (n * 4194304 + i)
+
+-- a value's bytes are its tag's and its content
+bytes-are : (v : Value) (lent : List ℕ) → valueBytes v lent ≡ headerBytes (tagUnder v lent) ++ contentUnder v lent
+unfolding valueBytes
+bytes-are (boolean b) lent = sym (append-nil (headerBytes (tag (application 1) (booleanByte b))))
+bytes-are (real x) lent = refl
+bytes-are (double x) lent = refl
+bytes-are (onDate d) lent = refl
+bytes-are (atTime t) lent = refl
+bytes-are (objectId n i) lent = refl
+bytes-are (characterString q) lent = refl
+bytes-are (octetString q) lent = refl
+bytes-are (enumerated x) lent = refl
+bytes-are (bitString u q) lent = refl
+bytes-are (unsignedInt x) lent = refl
+bytes-are (signedInt x) lent = refl
+
+text-good : (lent : List ℕ) → textWritable lent ≡ can → checkOf lent ≡ good
+unfolding textWritable
+text-good lent e = go (checkOf lent) e
+  where
+    go : (v : Verdict) → textBy v ≡ can → v ≡ good
+    go good h = refl
+    go (badAt p) h = let z : _≡_ {A = ℕ} 0 1 = cc in absurd (omega arith)
+
+identifier-back : (n i : ℕ) → i ≤ 4194303 → ((n * 4194304 + i) / 4194304 ≡ n) × ((n * 4194304 + i) % 4194304 ≡ i)
+identifier-back n i h = (omega arith, omega arith)
+
+-- the content that is written for a value is that value
+content-is : (v : Value) (lent : List ℕ) → writableValue v lent ≡ can → Held v → (p : ℕ) → Content (tagUnder v lent) p (contentUnder v lent) (placed v p lent)
+unfolding writableValue
+content-is (boolean true) lent w h p = ofBoolean
+content-is (boolean false) lent w h p = ofBoolean
+content-is (unsignedInt x) lent w h p =
+    let s = unsigned-shortest x h in
+    subst (λ (y : ℕ). Content (tag (application 2) (length (unsignedBytes x))) p (unsignedBytes x) (unsignedInt y)) (s .holds .stands) (ofUnsigned (unsignedBytes x) (s .holds .some) (s .most))
+content-is (signedInt x) lent w h p =
+    let s = signed-shortest x h in
+    subst (λ (y : ℤ). Content (tag (application 3) (length (signedBytes x))) p (signedBytes x) (signedInt y)) (s .holds .stands) (ofSigned (signedBytes x) (s .holds .some) (s .most))
+content-is (real x) lent w h p =
+    let b : ℕ = toBits binary32 x in
+    let e : ofBits binary32 (unsignedValue (lowBytes 4 b)) ≡ x = ap (ofBits binary32) (low-bytes-stand 4 b (toBits-lt binary32 x h)) ∙ ofBits-toBits binary32 x h in
+    subst (λ (y : Float). Content (tag (application 4) 4) p (lowBytes 4 b) (real y)) e (ofReal (lowBytes 4 b) refl)
+content-is (double x) lent w h p =
+    let b : ℕ = toBits binary64 x in
+    let e : ofBits binary64 (unsignedValue (lowBytes 8 b)) ≡ x = ap (ofBits binary64) (low-bytes-stand 8 b (toBits-lt binary64 x h)) ∙ ofBits-toBits binary64 x h in
+    subst (λ (y : Float). Content (tag (application 4) 8) p (lowBytes 8 b) (double y)) e (ofDouble (lowBytes 8 b) refl)
+content-is (octetString q) lent w h p = ofOctetString lent
+content-is (characterString q) lent w h p = ofText lent (good-exactly lent .0 (text-good lent w))
+content-is (bitString u q) lent w h p = ofBitString lent
+content-is (enumerated x) lent w h p =
+    let s = unsigned-shortest x (omega arith) in
+    subst (λ (y : ℕ). Content (tag (application 9) (length (unsignedBytes x))) p (unsignedBytes x) (enumerated y)) (s .holds .stands) (ofEnumerated (unsignedBytes x) (s .holds .some) (s .most) (omega (arith, s .holds .stands)))
+content-is (onDate d) lent w h p =
+    let f = date-fits (d .year) w in
+    let e : d .year - 1900 + 1900 ≡ d .year = omega arith in
+    subst (λ (y : ℕ). Content (tag (application 10) 4) p (dateBytes d) (onDate (date y (d .month) (d .day) (d .weekday)))) e ofDate
+content-is (atTime t) lent w h p = ofTime
+content-is (objectId n i) lent w h p =
+    let f = id-fits n i w in
+    let k : ℕ = n * 4194304 + i in
+    let b = identifier-back n i (f .1) in
+    let s : unsignedValue (lowBytes 4 k) ≡ k = low-bytes-stand 4 k (omega arith) in
+    subst₂ (λ (x y : ℕ). Content (tag (application 12) 4) p (lowBytes 4 k) (objectId x y)) (ap (λ (m : ℕ). m / 4194304) s ∙ b .0) (ap (λ (m : ℕ). m % 4194304) s ∙ b .1) (ofObjectId (lowBytes 4 k) refl)
+
+-- its tag is one that bytes can carry
+tag-in-range : (v : Value) (lent : List ℕ) → length lent ≤ 65535 → Held v → InRange (tagUnder v lent .number) (tagUnder v lent .value)
+tag-in-range (boolean true) lent l h = omega arith
+tag-in-range (boolean false) lent l h = omega arith
+tag-in-range (unsignedInt x) lent l h = omega (arith, unsigned-shortest x h .most)
+tag-in-range (signedInt x) lent l h = omega (arith, signed-shortest x h .most)
+tag-in-range (real x) lent l h = omega arith
+tag-in-range (double x) lent l h = omega arith
+tag-in-range (octetString q) lent l h = omega arith
+tag-in-range (characterString q) lent l h = omega arith
+tag-in-range (bitString u q) lent l h = omega arith
+tag-in-range (enumerated x) lent l h = omega (arith, unsigned-shortest x (omega arith) .most)
+tag-in-range (onDate d) lent l h = omega arith
+tag-in-range (atTime t) lent l h = omega arith
+tag-in-range (objectId n i) lent l h = omega arith
+
+-- a write that was accepted was of a value that can be written, with lent bytes that are not too many
+abbrev Could : ℕ → Writable → Answer (Unit {0}) → Type 0
+Could lent w (accepted u next) = (w ≡ can) × (lent ≤ 65535)
+Could lent w (refused n c) = Unit {0}
+
+could : (lent : ℕ) (w : Writable) (count : ℕ) (xs : List ℕ) (place : ℕ) → Could lent w (writeAnswer lent w count xs place)
+unfolding writeAnswer
+could lent w count xs place =
+    either (Could lent w) (ltb 65535 (length xs)) (λ e. tt) (λ e.
+    either (Could lent w) (ltb 65535 lent) (λ f. tt) (λ f.
+    either (Could lent w) (ltb (length xs) place) (λ g. tt) (λ g. go w (ltb-false 65535 lent f))))
+  where
+    go : (w : Writable) → lent ≤ 65535 → Could lent w (unless w (if (ltb (length xs) (place + count)) (refused 13 (amount count)) (accepted tt (place + count))))
+    go can l = either (Could lent can) (ltb (length xs) (place + count)) (λ h. tt) (λ h. (refl, l))
+    go (cannot n c) l = tt
+
+settled-could : (lent : ℕ) (w : Writable) (bytes xs : List ℕ) (place : ℕ) (a : Answer (Unit {0})) → Could lent w a → Could lent w (settled bytes xs place a .answer)
+settled-could lent w bytes xs place (accepted u next) h = h
+settled-could lent w bytes xs place (refused n c) h = tt
+
+accepted-could : (lent : ℕ) (w : Writable) (bytes xs : List ℕ) (place next : ℕ) (ys : List ℕ) → writing lent w bytes xs place ≡ left (accepted tt next) ys → (w ≡ can) × (lent ≤ 65535)
+unfolding writing
+accepted-could lent w bytes xs place next ys e =
+    subst (λ (l : Left). Could lent w (l .answer)) e (settled-could lent w bytes xs place (writeAnswer lent w (length bytes) xs place) (could lent w (length bytes) xs place))
+
+-- whatever `encode` writes, `decode` reads as the same value at the same place, with the next place at its end; what cannot be written is refused 12 or 10 and named by `writableValue`
+pub round-trip : (v : Value) (lent : List ℕ) → Held v → (xs : List ℕ) (place next : ℕ) (ys : List ℕ) → valueTo v lent xs place ≡ left (accepted tt next) ys
+    → valueFrom ys place ≡ accepted (placed v (place + length (headerBytes (tagUnder v lent))) lent) next
+unfolding valueTo
+round-trip v lent h xs place next ys e =
+    let t : Tag = tagUnder v lent in
+    let header : List ℕ = headerBytes t in
+    let content : List ℕ = contentUnder v lent in
+    let c = accepted-could (length lent) (writableValue v lent) (valueBytes v lent) xs place next ys e in
+    let w = wrote (length lent) (writableValue v lent) (valueBytes v lent) xs place next ys e in
+    let b : length (valueBytes v lent) ≡ length header + length content = ap length (bytes-are v lent) ∙ length-append header content in
+    let rest : List ℕ = drop (place + length (valueBytes v lent)) xs in
+    let s : length ys ≤ 65535 = omega (arith, ap length (w .buffer), over-length (valueBytes v lent) xs place (w .room), w .small) in
+    let d : drop place ys ≡ header ++ (content ++ rest) =
+    ap (drop place) (w .buffer) ∙ written-here (valueBytes v lent) xs place (w .room) ∙ ap (λ (l : List ℕ). l ++ rest) (bytes-are v lent) ∙ append-assoc header content rest in
+    read-exactly ys place (placed v (place + length header) lent) next .1 (
+      s,
+      record {
+        found = t;
+        header = header;
+        is-tag = header-is-tag (t .number) (t .value) (tag-in-range v lent (c .1) h);
+        content = content;
+        is = content-is v lent (c .0) h (place + length header);
+        rest = rest;
+        here = d;
+        ends = omega (arith, w .ends);
+      },
+    )
