@@ -6,13 +6,14 @@ use native.Mathlib.Nat.{pow-succ', one-le-pow, mul-assoc, add-assoc, add-mul, mo
 use native.Mathlib.Numerals.{add-one}
 use native.Mathlib.Omega.{arith}
 use mathlib.Core.List.{List, [], _∷_}
-use lib.Arith.{mod-mul, mul-pred}
+use lib.Arith.{mod-mul, mul-pred, digits-div}
 use lib.Pow.{pow-add}
 use lib.IntN.{ℤ, pos, negsuc}
 use lib.Signed.{mag}
 use lib.Dec.{lit<}
 use lib.ListN.{length, getD}
 use Rattle.numbers.specs.Integer.{followedBy, unsignedValue, lowBytes, patternOf, Bytes}
+use Rattle.numbers.proofs.Value.{value-lt}
 
 -- the low bytes behind a
 followed-by-low : (n a v : ℕ) → followedBy a (lowBytes n v) ≡ a * 256 ^ n + v % 256 ^ n
@@ -43,6 +44,28 @@ low-bytes-above (suc n) a v =
     let d : (a * 256 * 256 ^ n + v) / 256 ^ n ≡ a * 256 + v / 256 ^ n = mul-add-div-right (one-le-pow n 256 (lit< tt)) (a * 256) v in
     let m : (a * 256 + v / 256 ^ n) % 256 ≡ v / 256 ^ n % 256 = omega arith in
     rw (e, d, m, low-bytes-above n (a * 256) v)
+
+-- what bytes stand for behind a
+followed-by-split : (a : ℕ) (bs : List ℕ) → followedBy a bs ≡ a * 256 ^ length bs + unsignedValue bs
+followed-by-split a [] = omega arith
+followed-by-split a (b ∷ bs) =
+    let e : a * 256 ^ suc (length bs) ≡ a * 256 * 256 ^ length bs = rw (pow-succ' 256 (length bs)) (sym (mul-assoc a 256 (256 ^ length bs))) in
+    let f : followedBy (a * 256 + b) bs ≡ (a * 256 + b) * 256 ^ length bs + unsignedValue bs = followed-by-split (a * 256 + b) bs in
+    let g : followedBy (0 * 256 + b) bs ≡ (0 * 256 + b) * 256 ^ length bs + unsignedValue bs = followed-by-split (0 * 256 + b) bs in
+    let m : (a * 256 + b) * 256 ^ length bs ≡ a * 256 * 256 ^ length bs + b * 256 ^ length bs = add-mul (a * 256) b (256 ^ length bs) in
+    let z : (0 * 256 + b) * 256 ^ length bs ≡ b * 256 ^ length bs = ap (λ (x : ℕ). x * 256 ^ length bs) (zero-add b) in
+    omega arith
+
+-- bytes are the low bytes of what they stand for
+pub low-bytes-of-value : (bs : List ℕ) → Bytes bs → lowBytes (length bs) (unsignedValue bs) ≡ bs
+low-bytes-of-value [] h = refl
+low-bytes-of-value (b ∷ bs) h =
+    let n : ℕ = length bs in
+    let v : unsignedValue (b ∷ bs) ≡ b * 256 ^ n + unsignedValue bs = followed-by-split (0 * 256 + b) bs ∙ ap (λ (x : ℕ). x * 256 ^ n + unsignedValue bs) (zero-add b) in
+    let l : unsignedValue bs < 256 ^ n = value-lt bs (λ i. h (suc i)) in
+    let d : (b * 256 ^ n + unsignedValue bs) / 256 ^ n ≡ b = digits-div b l in
+    let m : b % 256 ≡ b = mod-eq-of-lt (h 0) in
+    rw (v, d, m, low-bytes-above n b (unsignedValue bs), low-bytes-of-value bs (λ i. h (suc i)))
 
 -- the low bytes of the 64-bit pattern are those of the pattern in n bytes, if n bytes hold the number
 pub low-bytes-of-pattern : (n : ℕ) (z : ℤ) → n ≤ 8 → mag z < 256 ^ n → lowBytes n (patternOf 8 z) ≡ lowBytes n (patternOf n z)

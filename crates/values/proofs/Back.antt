@@ -21,7 +21,8 @@ use Rattle.types.proofs.Choices.{either}
 use Rattle.numbers.specs.Integer.{lowBytes, unsignedValue, signedValue, unsignedBytes, signedBytes}
 use Rattle.numbers.specs.Reading.{partAt}
 use Rattle.numbers.proofs.Low.{low-bytes-stand}
-use Rattle.numbers.proofs.Shortest.{unsigned-shortest, signed-shortest}
+use Rattle.numbers.proofs.Shortest.{unsigned-length, signed-length, signed-between, unsigned-shortest, signed-shortest}
+use Rattle.numbers.proofs.Least.{length-between}
 use Rattle.numbers.proofs.Wrote.{wrote, written-here, over-length}
 use Rattle.tags.specs.Writing.{headerBytes}
 use Rattle.tags.specs.Item.{booleanByte}
@@ -67,7 +68,7 @@ Held (unsignedInt x) = x < 2 ^ 64
 Held (signedInt x) = mag x < 2 ^ 63
 
 -- the tag that a value is written under, and its content
-abbrev tagUnder : Value → List ℕ → Tag
+abbrev pub tagUnder : Value → List ℕ → Tag
 tagUnder (boolean b) lent = tag (application 1) (booleanByte b)
 tagUnder (unsignedInt x) lent = tag (application 2) (length (unsignedBytes x))
 tagUnder (signedInt x) lent = tag (application 3) (length (signedBytes x))
@@ -81,7 +82,7 @@ tagUnder (onDate d) lent = tag (application 10) 4
 tagUnder (atTime t) lent = tag (application 11) 4
 tagUnder (objectId n i) lent = tag (application 12) 4
 
-abbrev contentUnder : Value → List ℕ → List ℕ
+abbrev pub contentUnder : Value → List ℕ → List ℕ
 contentUnder (boolean b) lent = []
 contentUnder (unsignedInt x) lent = unsignedBytes x
 contentUnder (signedInt x) lent = signedBytes x
@@ -96,7 +97,7 @@ contentUnder (atTime t) lent = timeBytes t
 contentUnder (objectId n i) lent = lowBytes 4 (n * 4194304 + i)
 
 -- a value's bytes are its tag's and its content
-bytes-are : (v : Value) (lent : List ℕ) → valueBytes v lent ≡ headerBytes (tagUnder v lent) ++ contentUnder v lent
+pub bytes-are : (v : Value) (lent : List ℕ) → valueBytes v lent ≡ headerBytes (tagUnder v lent) ++ contentUnder v lent
 unfolding valueBytes
 bytes-are (boolean b) lent = sym (append-nil (headerBytes (tag (application 1) (booleanByte b))))
 bytes-are (real x) lent = refl
@@ -160,20 +161,20 @@ content-is (objectId n i) lent w h p =
     subst₂ (λ (x y : ℕ). Content (tag (application 12) 4) p (lowBytes 4 k) (objectId x y)) (ap (λ (m : ℕ). m / 4194304) s ∙ b .0) (ap (λ (m : ℕ). m % 4194304) s ∙ b .1) (ofObjectId (lowBytes 4 k) refl)
 
 -- its tag is one that bytes can carry
-tag-in-range : (v : Value) (lent : List ℕ) → length lent ≤ 65535 → Held v → InRange (tagUnder v lent .number) (tagUnder v lent .value)
-tag-in-range (boolean true) lent l h = omega arith
-tag-in-range (boolean false) lent l h = omega arith
-tag-in-range (unsignedInt x) lent l h = omega (arith, unsigned-shortest x h .most)
-tag-in-range (signedInt x) lent l h = omega (arith, signed-shortest x h .most)
-tag-in-range (real x) lent l h = omega arith
-tag-in-range (double x) lent l h = omega arith
-tag-in-range (octetString q) lent l h = omega arith
-tag-in-range (characterString q) lent l h = omega arith
-tag-in-range (bitString u q) lent l h = omega arith
-tag-in-range (enumerated x) lent l h = omega (arith, unsigned-shortest x (omega arith) .most)
-tag-in-range (onDate d) lent l h = omega arith
-tag-in-range (atTime t) lent l h = omega arith
-tag-in-range (objectId n i) lent l h = omega arith
+pub tag-in-range : (v : Value) (lent : List ℕ) → length lent ≤ 65535 → InRange (tagUnder v lent .number) (tagUnder v lent .value)
+tag-in-range (boolean true) lent l = omega arith
+tag-in-range (boolean false) lent l = omega arith
+tag-in-range (unsignedInt x) lent l = omega (arith, unsigned-length x, length-between x)
+tag-in-range (signedInt x) lent l = omega (arith, signed-length x, signed-between x)
+tag-in-range (real x) lent l = omega arith
+tag-in-range (double x) lent l = omega arith
+tag-in-range (octetString q) lent l = omega arith
+tag-in-range (characterString q) lent l = omega arith
+tag-in-range (bitString u q) lent l = omega arith
+tag-in-range (enumerated x) lent l = omega (arith, unsigned-length x, length-between x)
+tag-in-range (onDate d) lent l = omega arith
+tag-in-range (atTime t) lent l = omega arith
+tag-in-range (objectId n i) lent l = omega arith
 
 -- a write that was accepted was of a value that can be written, with lent bytes that are not too many
 abbrev Could : ℕ → Writable → Answer (Unit {0}) → Type 0
@@ -220,7 +221,7 @@ round-trip v lent h xs place next ys e =
       record {
         found = t;
         header = header;
-        is-tag = header-is-tag (t .number) (t .value) (tag-in-range v lent (c .1) h);
+        is-tag = header-is-tag (t .number) (t .value) (tag-in-range v lent (c .1));
         content = content;
         is = content-is v lent (c .0) h (place + length header);
         rest = rest;

@@ -4,3 +4,4 @@ pub mod Single
 pub mod Examples
 pub mod Writable
 pub mod Back
+pub mod Again

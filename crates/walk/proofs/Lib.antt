@@ -1,0 +1,12 @@
+pub mod Found
+pub mod Unfolds
+pub mod Standing
+pub mod Nested
+pub mod Along
+pub mod Passing
+pub mod Exactly
+pub mod BlockIsBody
+pub mod OneReading
+pub mod Counted
+pub mod Single
+pub mod Examples

@@ -1,0 +1,8 @@
+// The strict walk over tags and blocks, from a place to the buffer's end.
+mod tag;
+mod walking;
+
+pub use tag::TagAt;
+pub use tag::tag_at;
+pub use walking::Walked;
+pub use walking::walk;
