@@ -1,0 +1,9 @@
+pub mod Writable
+pub mod Built
+pub mod Row
+pub mod Control
+pub mod Exactly
+pub mod Back
+pub mod Again
+pub mod Single
+pub mod Examples

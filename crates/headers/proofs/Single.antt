@@ -1,0 +1,53 @@
+-- No two headers and no two answers of the reader are the same on paper, so each promise admits a single one.
+-- Assumes nothing.
+use mathlib.Core.Path.{_≡_, refl, ap}
+use Prim.Native.Nat.{ℕ}
+use mathlib.Core.List.{List, [], _∷_}
+use lib.ListN.{getD}
+use Rattle.types.specs.Refusal.{row}
+use Rattle.types.specs.Answer.{Answer, accepted, refused}
+use Rattle.types.proofs.Single.{told-apart, programRefusal, refusal-back}
+use Rattle.headers.specs.Header.{Kind, request, simple, complex, segment, Value, nibbles, number, choice, Header, headerOf}
+use Rattle.headers.specs.Reading.{paperHeader}
+use Rattle.headers.specs.declared.header.Header as program
+use Rattle.headers.specs.declared.header.Header.the-variants as h
+use Rattle.headers.specs.declared.reading.HeaderRead.{HeaderRead}
+use Rattle.headers.specs.declared.reading.HeaderRead.the-variants as r
+
+-- the numbers of a header, in their order
+abbrev numbers : List Value → List ℕ
+numbers [] = []
+numbers (nibbles a b ∷ vs) = a ∷ b ∷ numbers vs
+numbers (number n ∷ vs) = n ∷ numbers vs
+numbers (choice c ∷ vs) = c ∷ numbers vs
+
+abbrev ofKind : Kind → List ℕ → program.Header
+ofKind request ns = h.ConfirmedRequest (getD ns 0 0) (getD ns 1 0) (getD ns 2 0) (getD ns 3 0)
+ofKind simple ns = h.SimpleAck (getD ns 0 0) (getD ns 1 0)
+ofKind complex ns = h.ComplexAck (getD ns 0 0) (getD ns 1 0)
+ofKind segment ns = h.SegmentAck (getD ns 0 0) (getD ns 1 0) (getD ns 2 0)
+
+abbrev pub programHeader : Header → program.Header
+programHeader x = ofKind (x .kind) (numbers (x .fields))
+
+pub header-back : (x : program.Header) → programHeader (headerOf x) ≡ x
+header-back (h.ConfirmedRequest segments size id c) = refl
+header-back (h.SimpleAck id c) = refl
+header-back (h.ComplexAck id c) = refl
+header-back (h.SegmentAck id sequence window) = refl
+
+-- no two headers are the same on paper
+pub single-header : (x y : program.Header) → headerOf x ≡ headerOf y → x ≡ y
+single-header = told-apart headerOf programHeader header-back
+
+abbrev read : Answer Header → HeaderRead
+read (accepted x next) = r.Read (programHeader x) next
+read (refused k c) = r.Refused (programRefusal (row k c))
+
+read-back : (x : HeaderRead) → read (paperHeader x) ≡ x
+read-back (r.Read x next) = ap (λ (y : program.Header). r.Read y next) (header-back x)
+read-back (r.Refused x) = ap r.Refused (refusal-back x)
+
+-- no two answers of the reader are
+pub single-header-read : (x y : HeaderRead) → paperHeader x ≡ paperHeader y → x ≡ y
+single-header-read = told-apart paperHeader read read-back

@@ -1,0 +1,73 @@
+-- The headers of confirmed services (ASHRAE 135, 20.1.2 and 20.1.4 to 20.1.6, as 01 restates them): a table with a row for each kind, and the map from the program's headers.
+-- Assumes nothing.
+use Prim.Native.Nat.{ℕ}
+use mathlib.Core.Bool.{Bool, true, false}
+use mathlib.Core.List.{List, [], _∷_}
+use lib.Dec.{eqb}
+use Rattle.types.specs.Choice.{if}
+use Rattle.headers.specs.declared.header.Header as program
+use Rattle.headers.specs.declared.header.Header.the-variants as h
+
+pub data Kind : Type 0 where
+  request : Kind
+  simple : Kind
+  complex : Kind
+  segment : Kind
+
+-- a byte behind the control byte: two numbers of four bits, a number, or a service choice
+pub data Field : Type 0 where
+  twoNibbles : Field
+  oneNumber : Field
+  oneChoice : Field
+
+-- what such a byte carries
+pub data Value : Type 0 where
+  nibbles : ℕ → ℕ → Value
+  number : ℕ → Value
+  choice : ℕ → Value
+
+-- a header: its kind, and what the bytes behind its control byte carry, in their order
+pub record Header : Type 0 where
+  pub kind : Kind
+  pub fields : List Value
+
+abbrev pub header : Kind → List Value → Header
+header k vs = record { kind = k; fields = vs }
+
+-- a row: the control byte's high nibble, whether its bit 3 says that the PDU is a segment, its low nibble as it is written, and the bytes that follow
+pub record Row : Type 0 where
+  pub pduType : ℕ
+  pub segmentable : Bool
+  pub low : List Value → ℕ
+  pub follow : List Field
+
+abbrev pub row : ℕ → Bool → (List Value → ℕ) → List Field → Row
+row t s l f = record { pduType = t; segmentable = s; low = l; follow = f }
+
+-- a request says by 2 that it accepts an answer in segments: not if its segments nibble is 0
+abbrev pub accepting : ℕ → ℕ
+accepting segments = if (eqb segments 0) 0 2
+
+abbrev pub requestLow : List Value → ℕ
+requestLow [] = 0
+requestLow (nibbles segments size ∷ vs) = accepting segments
+requestLow (number n ∷ vs) = 0
+requestLow (choice c ∷ vs) = 0
+
+abbrev pub noLow : List Value → ℕ
+noLow vs = 0
+
+abbrev pub rowOf : Kind → Row
+rowOf request = row 0 true requestLow (twoNibbles ∷ oneNumber ∷ oneChoice ∷ [])
+rowOf simple = row 2 false noLow (oneNumber ∷ oneChoice ∷ [])
+rowOf complex = row 3 true noLow (oneNumber ∷ oneChoice ∷ [])
+rowOf segment = row 4 false noLow (oneNumber ∷ oneNumber ∷ oneNumber ∷ [])
+
+abbrev pub kinds : List Kind
+kinds = request ∷ simple ∷ complex ∷ segment ∷ []
+
+abbrev pub headerOf : program.Header → Header
+headerOf (h.ConfirmedRequest segments size id c) = header request (nibbles segments size ∷ number id ∷ choice c ∷ [])
+headerOf (h.SimpleAck id c) = header simple (number id ∷ choice c ∷ [])
+headerOf (h.ComplexAck id c) = header complex (number id ∷ choice c ∷ [])
+headerOf (h.SegmentAck id sequence window) = header segment (number id ∷ number sequence ∷ number window ∷ [])

@@ -1,0 +1,58 @@
+-- Writing a header (ASHRAE 135, 20.1, as 01 restates it): one rule for the bytes of every row.
+-- Assumes nothing.
+use Prim.Native.Nat.{ℕ, _+_, _*_, _≤_}
+use mathlib.Core.Path.{_≡_}
+use mathlib.Core.List.{List, [], _∷_, map}
+use lib.ListN.{length, take}
+use lib.Dec.{ltb}
+use Rattle.types.specs.Choice.{if}
+use Rattle.types.specs.Refusal.{amount, table}
+use Rattle.types.specs.Writing.{Left, Writable, can, cannot, writing}
+use Rattle.types.specs.declared.outcome.Outcome.{Outcome}
+use Rattle.types.specs.declared.outcome.Outcome.the-variants as o
+use Rattle.headers.specs.Header.{Value, nibbles, number, choice, Header, rowOf}
+use Rattle.headers.specs.declared.writing.HeaderBytes.{HeaderBytes}
+
+-- the byte that carries a value
+abbrev pub byteOf : Value → ℕ
+byteOf (nibbles a b) = a * 16 + b
+byteOf (number n) = n
+byteOf (choice c) = c
+
+-- the control byte and the bytes that follow
+unfoldable pub headerBytes : Header → List ℕ
+headerBytes h = (rowOf (h .kind) .pduType * 16 + rowOf (h .kind) .low (h .fields)) ∷ map byteOf (h .fields)
+
+-- whether a byte can carry a value: a nibble has four bits, a service choice goes to 33
+abbrev pub choiceWritable : ℕ → Writable
+choiceWritable c = if (ltb 33 c) (cannot 11 (amount c)) can
+
+abbrev pub valueWritable : Value → Writable
+valueWritable (nibbles a b) = if (ltb 15 a) (cannot 12 (amount 0)) (if (ltb 15 b) (cannot 12 (amount 0)) can)
+valueWritable (number n) = can
+valueWritable (choice c) = choiceWritable c
+
+abbrev pub both : Writable → Writable → Writable
+both can w = w
+both (cannot n c) w = cannot n c
+
+-- the first value that cannot be written says why not: nibbles stand before a choice, so 12 comes before 11
+abbrev pub writable : List Value → Writable
+writable [] = can
+writable (v ∷ vs) = both (valueWritable v) (writable vs)
+
+-- what writing a header at a place of a buffer answers and leaves
+unfoldable pub headerTo : Header → List ℕ → ℕ → Left
+headerTo h xs place = writing 0 (writable (h .fields)) (headerBytes h) xs place
+
+-- a check of the program, as whether a header can be written
+abbrev pub paperWritable : Outcome → Writable
+paperWritable o.Passed = can
+paperWritable (o.Refused r) = cannot (table r .number) (table r .carries)
+
+-- the program's struct holds these bytes, four at the most
+pub record Holds (held : HeaderBytes) (bytes : List ℕ) : Type 0 where
+  pub array : length (held .bytes) ≡ 4
+  pub most : held .len ≤ 4
+  pub counted : length bytes ≡ held .len
+  pub first : take (held .len) (held .bytes) ≡ bytes

@@ -1,0 +1,68 @@
+// The confirmed service choices; there is none above the last.
+pub const ACKNOWLEDGE_ALARM: u8 = 0;
+
+pub const COV_NOTIFICATION: u8 = 1;
+
+pub const EVENT_NOTIFICATION: u8 = 2;
+
+pub const GET_ALARM_SUMMARY: u8 = 3;
+
+pub const GET_ENROLLMENT_SUMMARY: u8 = 4;
+
+pub const SUBSCRIBE_COV: u8 = 5;
+
+pub const ATOMIC_READ_FILE: u8 = 6;
+
+pub const ATOMIC_WRITE_FILE: u8 = 7;
+
+pub const ADD_LIST_ELEMENT: u8 = 8;
+
+pub const REMOVE_LIST_ELEMENT: u8 = 9;
+
+pub const CREATE_OBJECT: u8 = 10;
+
+pub const DELETE_OBJECT: u8 = 11;
+
+pub const READ_PROPERTY: u8 = 12;
+
+pub const READ_PROP_CONDITIONAL: u8 = 13;
+
+pub const READ_PROP_MULTIPLE: u8 = 14;
+
+pub const WRITE_PROPERTY: u8 = 15;
+
+pub const WRITE_PROP_MULTIPLE: u8 = 16;
+
+pub const DEVICE_COMMUNICATION_CONTROL: u8 = 17;
+
+pub const PRIVATE_TRANSFER: u8 = 18;
+
+pub const TEXT_MESSAGE: u8 = 19;
+
+pub const REINITIALIZE_DEVICE: u8 = 20;
+
+pub const VT_OPEN: u8 = 21;
+
+pub const VT_CLOSE: u8 = 22;
+
+pub const VT_DATA: u8 = 23;
+
+pub const AUTHENTICATE: u8 = 24;
+
+pub const REQUEST_KEY: u8 = 25;
+
+pub const READ_RANGE: u8 = 26;
+
+pub const LIFE_SAFETY_OPERATION: u8 = 27;
+
+pub const SUBSCRIBE_COV_PROPERTY: u8 = 28;
+
+pub const GET_EVENT_INFORMATION: u8 = 29;
+
+pub const SUBSCRIBE_COV_PROPERTY_MULTIPLE: u8 = 30;
+
+pub const COV_NOTIFICATION_MULTIPLE: u8 = 31;
+
+pub const AUDIT_NOTIFICATION: u8 = 32;
+
+pub const AUDIT_LOG_QUERY: u8 = 33;

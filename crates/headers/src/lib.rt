@@ -1,0 +1,11 @@
+// The headers of confirmed services, read and written.
+pub mod confirmed_service_choice;
+mod header;
+mod pdu_type;
+mod reading;
+mod writing;
+
+pub use header::Header;
+pub use reading::HeaderRead;
+pub use reading::decode;
+pub use writing::encode;

@@ -1,0 +1,156 @@
+// Headers read at a place of a buffer.
+ghost use mathlib.Core.Path.{_≡_};
+ghost use mathlib.Core.List.{[], _∷_};
+ghost use Rattle.headers.specs.Header.{request, simple, complex, segment, oneNumber, oneChoice};
+ghost use Rattle.headers.specs.Reading.{fieldsFrom, kindFrom, headerAfter, headerFrom, paperPair, paperHeader};
+use crate::confirmed_service_choice::AUDIT_LOG_QUERY;
+use crate::header::Header;
+use crate::pdu_type::COMPLEX_ACK;
+use crate::pdu_type::CONFIRMED_REQUEST;
+use crate::pdu_type::SEGMENT_ACK;
+use crate::pdu_type::SIMPLE_ACK;
+use numbers::ByteRead;
+use types::Refusal;
+
+// A header and the place after it, where the body begins.
+pub enum HeaderRead {
+    Read(Header, usize),
+    Refused(Refusal),
+}
+
+// An invoke id, a service choice and the place after them.
+enum PairRead {
+    Pair(u8, u8, usize),
+    Refused(Refusal),
+}
+
+// The header at a place.
+pub fn decode(buf: &[u8], place: usize) -> HeaderRead
+    ensures { λ r. ⌜ paperHeader r ≡ headerFrom (now (buf .entry)) place ⌝ }
+{
+    match values::read_byte(buf, place) {
+        ByteRead::Byte(control, next) => header_after(control, buf, next),
+        ByteRead::Refused(r) => HeaderRead::Refused(r),
+    }
+}
+
+// The header whose control byte is known.
+fn header_after(control: u8, buf: &[u8], place: usize) -> HeaderRead
+    ensures { λ r. ⌜ paperHeader r ≡ headerAfter control (now (buf .entry)) place ⌝ }
+{
+    let segmented = control / 8 % 2;
+    match control / 16 {
+        CONFIRMED_REQUEST => {
+            if segmented != 0 {
+                HeaderRead::Refused(Refusal::OtherPduType(control))
+            } else {
+                confirmed_request(buf, place)
+            }
+        }
+        SIMPLE_ACK => simple_ack(buf, place),
+        COMPLEX_ACK => {
+            if segmented != 0 {
+                HeaderRead::Refused(Refusal::OtherPduType(control))
+            } else {
+                complex_ack(buf, place)
+            }
+        }
+        SEGMENT_ACK => segment_ack(buf, place),
+        _ => HeaderRead::Refused(Refusal::OtherPduType(control)),
+    }
+}
+
+// The request, from behind its control byte on.
+fn confirmed_request(buf: &[u8], place: usize) -> HeaderRead
+    ensures { λ r. ⌜ paperHeader r ≡ kindFrom request (now (buf .entry)) place ⌝ }
+{
+    match values::read_byte(buf, place) {
+        ByteRead::Byte(sizes, after) => match id_and_choice(buf, after) {
+            PairRead::Pair(invoke_id, service_choice, next) => HeaderRead::Read(
+                Header::ConfirmedRequest {
+                    max_segments: sizes / 16,
+                    max_adpu: sizes % 16,
+                    invoke_id,
+                    service_choice,
+                },
+                next,
+            ),
+            PairRead::Refused(r) => HeaderRead::Refused(r),
+        },
+        ByteRead::Refused(r) => HeaderRead::Refused(r),
+    }
+}
+
+// The simple acknowledgement, from behind its control byte on.
+fn simple_ack(buf: &[u8], place: usize) -> HeaderRead
+    ensures { λ r. ⌜ paperHeader r ≡ kindFrom simple (now (buf .entry)) place ⌝ }
+{
+    match id_and_choice(buf, place) {
+        PairRead::Pair(invoke_id, service_choice, next) => HeaderRead::Read(
+            Header::SimpleAck {
+                invoke_id,
+                service_choice,
+            },
+            next,
+        ),
+        PairRead::Refused(r) => HeaderRead::Refused(r),
+    }
+}
+
+// The complex acknowledgement, from behind its control byte on.
+fn complex_ack(buf: &[u8], place: usize) -> HeaderRead
+    ensures { λ r. ⌜ paperHeader r ≡ kindFrom complex (now (buf .entry)) place ⌝ }
+{
+    match id_and_choice(buf, place) {
+        PairRead::Pair(invoke_id, service_choice, next) => HeaderRead::Read(
+            Header::ComplexAck {
+                invoke_id,
+                service_choice,
+            },
+            next,
+        ),
+        PairRead::Refused(r) => HeaderRead::Refused(r),
+    }
+}
+
+// The segment acknowledgement, from behind its control byte on.
+fn segment_ack(buf: &[u8], place: usize) -> HeaderRead
+    ensures { λ r. ⌜ paperHeader r ≡ kindFrom segment (now (buf .entry)) place ⌝ }
+{
+    match values::read_byte(buf, place) {
+        ByteRead::Byte(invoke_id, second) => match values::read_byte(buf, second) {
+            ByteRead::Byte(sequence_num, third) => match values::read_byte(buf, third) {
+                ByteRead::Byte(proposed_window_size, next) => HeaderRead::Read(
+                    Header::SegmentAck {
+                        invoke_id,
+                        sequence_num,
+                        proposed_window_size,
+                    },
+                    next,
+                ),
+                ByteRead::Refused(r) => HeaderRead::Refused(r),
+            },
+            ByteRead::Refused(r) => HeaderRead::Refused(r),
+        },
+        ByteRead::Refused(r) => HeaderRead::Refused(r),
+    }
+}
+
+// An invoke id and the service choice behind it.
+fn id_and_choice(buf: &[u8], place: usize) -> PairRead
+    ensures { λ r. ⌜ paperPair r ≡ fieldsFrom (oneNumber ∷ oneChoice ∷ []) (now (buf .entry)) place ⌝ }
+{
+    match values::read_byte(buf, place) {
+        ByteRead::Byte(invoke_id, after) => match values::read_byte(buf, after) {
+            ByteRead::Byte(service_choice, next) => {
+                if AUDIT_LOG_QUERY < service_choice {
+                    PairRead::Refused(Refusal::ServiceChoiceTooLarge(service_choice))
+                } else {
+                    PairRead::Pair(invoke_id, service_choice, next)
+                }
+            }
+            ByteRead::Refused(r) => PairRead::Refused(r),
+        },
+        ByteRead::Refused(r) => PairRead::Refused(r),
+    }
+}
