@@ -1,0 +1,47 @@
+// compare: makes requests, asks the Rust, the reference and the port, and judges their answers.
+mod batch;
+mod judging;
+mod making;
+mod report;
+
+use batch::Programs;
+use report::Report;
+use std::process::ExitCode;
+
+// Requests that are asked of each program in one run of it.
+const BATCH: usize = 50_000;
+
+fn main() -> ExitCode {
+    let words: Vec<String> = std::env::args().skip(1).collect();
+    let [seed, count, folder, rust, reference, port] = &words[..] else {
+        eprintln!("usage: comparer SEED COUNT FOLDER RUST REFERENCE PORT");
+        return ExitCode::from(2);
+    };
+    let (Ok(seed), Ok(count)) = (seed.parse(), count.parse()) else {
+        eprintln!("SEED and COUNT are numbers");
+        return ExitCode::from(2);
+    };
+    let programs = Programs { folder, rust, reference, port };
+    let mut report = Report::default();
+    match run(seed, count, &programs, &mut report) {
+        Ok(()) => report.print(seed),
+        Err(error) => {
+            eprintln!("oracle: {error}");
+            ExitCode::from(2)
+        }
+    }
+}
+
+fn run(seed: u64, count: u64, programs: &Programs, report: &mut Report) -> std::io::Result<()> {
+    let mut lines = Vec::with_capacity(BATCH);
+    let mut outcome = Ok(());
+    making::make(seed, count, |line| {
+        lines.push(line);
+        if lines.len() == BATCH && outcome.is_ok() {
+            outcome = programs.ask(&lines, report);
+            lines.clear();
+        }
+    });
+    outcome?;
+    if lines.is_empty() { Ok(()) } else { programs.ask(&lines, report) }
+}

@@ -1,0 +1,84 @@
+// Item lists, as they should be and damaged, under bodies and walks.
+use crate::making::lines::read;
+use crate::making::random::Random;
+use protocol::{Class, Tag, TagName};
+use reference::tags::tag_bytes;
+
+pub fn draw(random: &mut Random) -> String {
+    let mut buf = random_bytes_before(random);
+    let place = buf.len();
+    let number = random.below(4) as u8;
+    let in_block = random.once_in(2);
+    if in_block {
+        buf.push(number * 16 + 0x0E);
+    }
+    let lists = if random.once_in(2000) { 100 + random.up_to(1500) } else { 1 };
+    (0..lists).for_each(|_| list(4, random, &mut buf));
+    if in_block {
+        buf.push(number * 16 + 0x0F);
+    }
+    if random.once_in(2) {
+        damage(&mut buf, random);
+    }
+    let allowance = if random.once_in(4) { random.up_to(12) } else { buf.len() + random.up_to(3) };
+    let ask = match random.below(5) {
+        0 | 1 => format!("body {allowance}"),
+        2 => format!("bodyfor {} {allowance}", if random.once_in(6) { 15 } else { number }),
+        3 => "tag".to_string(),
+        _ => "walk".to_string(),
+    };
+    read(&ask, place.min(buf.len()), &buf)
+}
+
+fn random_bytes_before(random: &mut Random) -> Vec<u8> {
+    let count = if random.once_in(3) { random.up_to(5) } else { 0 };
+    random.bytes(count)
+}
+
+// Up to five items; a block has a list inside.
+pub fn list(depth: u32, random: &mut Random, buf: &mut Vec<u8>) {
+    for _ in 0..random.up_to(5) {
+        if depth > 0 && random.once_in(3) {
+            let number = random.below(4) as u8;
+            buf.push(number * 16 + 0x0E);
+            list(depth - 1, random, buf);
+            buf.push(number * 16 + 0x0F);
+        } else {
+            plain(random, buf);
+        }
+    }
+}
+
+fn plain(random: &mut Random, buf: &mut Vec<u8>) {
+    let context = random.once_in(2);
+    let class = if context { Class::Context } else { Class::Application };
+    let number = match (context, random.below(4)) {
+        (true, 0) => random.of(&[14, 15, 16, 254, 255]),
+        _ => random.below(13) as u8,
+    };
+    let length = if random.once_in(30) { 250 + random.up_to(10) } else { random.up_to(7) };
+    buf.extend(tag_bytes(Tag { name: TagName { class, number }, value: length as u32 }));
+    if context || number != 1 {
+        buf.extend(random.bytes(length));
+    }
+}
+
+// One to three damages: a byte changed, a bit turned, a byte less or more, an end cut off.
+pub fn damage(buf: &mut Vec<u8>, random: &mut Random) {
+    for _ in 0..=random.up_to(2) {
+        if buf.is_empty() {
+            return;
+        }
+        let at = random.up_to(buf.len() - 1);
+        match random.below(6) {
+            0 => buf[at] = random.byte(),
+            1 => buf[at] ^= 1 << random.below(8),
+            2 => {
+                buf.remove(at);
+            }
+            3 => buf.insert(at, random.byte()),
+            4 => buf[at] = random.of(&[0x2E, 0x2F, 0x3E, 0x3F, 0x15, 0x1D, 0xFE, 0xFF, 0x05]),
+            _ => buf.truncate(at),
+        }
+    }
+}

@@ -1,0 +1,10 @@
+// The requests of shared/docs/replay.md as types, read from their lines; shared by all programs of the oracle.
+mod answering;
+mod parse;
+mod request;
+mod words;
+
+pub use answering::answer_all;
+pub use parse::parse;
+pub use request::{Class, Header, Read, Request, Tag, TagName, Value, Write};
+pub use words::{hex, put_hex};

@@ -1,0 +1,89 @@
+// Answers in the form of the protocol.
+use crate::bodies::{body, body_for, Body};
+use crate::headers::header;
+use crate::integers::{signed, unsigned};
+use crate::reading::{byte, open, slice};
+use crate::refusal::Refusal;
+use crate::tags::{expected, expected_value, tag};
+use crate::utf8;
+use crate::values::value;
+use crate::walk::walk;
+use crate::writing::write;
+use protocol::{put_hex, Read, Request, Write};
+
+pub fn answer(request: &Request) -> String {
+    match request {
+        Request::Read { what, place, buf } => read_answer(what, buf, *place),
+        Request::Write { what, place, capacity } => write_answer(what, *place, *capacity),
+    }
+}
+
+fn write_answer(what: &Write, place: usize, capacity: usize) -> String {
+    let mut buf = vec![0xAA; capacity];
+    let mut answer = match write(what, &mut buf, place) {
+        Ok(next) => format!("ok {next} "),
+        Err(refusal) => format!("{refusal} "),
+    };
+    put_hex(&buf, &mut answer);
+    answer
+}
+
+fn read_answer(what: &Read, buf: &[u8], place: usize) -> String {
+    if let Err(refusal) = open(buf, place) {
+        let counts = matches!(what, Read::Body { .. } | Read::BodyFor { .. } | Read::Walk);
+        return if counts { format!("{refusal} 0") } else { refusal.to_string() };
+    }
+    match what {
+        Read::Body { allowance } => body_answer(body(*allowance, buf, place)),
+        Read::BodyFor { number, allowance } => {
+            body_answer(body_for(*number, *allowance, buf, place))
+        }
+        Read::Walk => match walk(buf, place) {
+            (Ok(()), count) => format!("ok {count}"),
+            (Err(refusal), count) => format!("{refusal} {count}"),
+        },
+        _ => accepted(what, buf, place).unwrap_or_else(|refusal| refusal.to_string()),
+    }
+}
+
+fn body_answer((found, count): (Result<Body, Refusal>, u64)) -> String {
+    match found {
+        Ok(Body { start, len, number, next }) => format!("ok {start} {len} {number} {next} {count}"),
+        Err(refusal) => format!("{refusal} {count}"),
+    }
+}
+
+// The answer of a read that counts nothing.
+fn accepted(what: &Read, buf: &[u8], place: usize) -> Result<String, Refusal> {
+    Ok(match what {
+        Read::Byte => byte(buf, place).map(|(byte, next)| format!("ok {byte:02x} {next}"))?,
+        Read::Bytes(count) => {
+            let (bytes, next) = slice(*count, buf, place)?;
+            format!("{} {next}", ok_hex(bytes))
+        }
+        Read::Slice(len) => {
+            slice(*len as usize, buf, place).map(|(_, next)| format!("ok {place} {len} {next}"))?
+        }
+        Read::Part(len) => slice(*len as usize, buf, place).map(|(bytes, _)| ok_hex(bytes))?,
+        Read::Unsigned(len) => printed(unsigned(*len, buf, place)?),
+        Read::Signed(len) => printed(signed(*len, buf, place)?),
+        Read::Tag => printed(tag(buf, place)?),
+        Read::Expect(name) => printed(expected(*name, buf, place)?),
+        Read::ExpectNumber(name) => format!("ok - {}", expected(*name, buf, place)?.1),
+        Read::ExpectValue(value) => format!("ok - {}", expected_value(*value, buf, place)?.1),
+        Read::Value => printed(value(buf, place)?),
+        Read::Header => printed(header(buf, place)?),
+        Read::Utf8 => utf8::check(&buf[place..]).map(|()| "ok".to_string())?,
+        Read::Body { .. } | Read::BodyFor { .. } | Read::Walk => unreachable!(),
+    })
+}
+
+fn printed((what, next): (impl std::fmt::Display, usize)) -> String {
+    format!("ok {what} {next}")
+}
+
+fn ok_hex(bytes: &[u8]) -> String {
+    let mut answer = "ok ".to_string();
+    put_hex(bytes, &mut answer);
+    answer
+}

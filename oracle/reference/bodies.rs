@@ -1,0 +1,65 @@
+// Tagged bodies, with an allowance of tags.
+use crate::refusal::{refuse, Refusal};
+use crate::tags::{content_length, expected, tag};
+use protocol::{Class, TagName};
+
+pub struct Body {
+    pub start: usize,
+    pub len: usize,
+    pub number: u8,
+    pub next: usize,
+}
+
+// The body at a place, and the tags read after the opening.
+pub fn body(allowance: u64, buf: &[u8], place: usize) -> (Result<Body, Refusal>, u64) {
+    let opening = tag(buf, place).and_then(|(tag, start)| match tag.name.class {
+        Class::Opening => Ok((tag.name.number, start)),
+        _ => Err(Refusal::Tag(6, tag)),
+    });
+    match opening {
+        Ok((number, start)) => after_opening(number, allowance, buf, start),
+        Err(refusal) => (Err(refusal), 0),
+    }
+}
+
+// The body at a place whose opening has this number, and the tags read after the opening.
+pub fn body_for(
+    number: u8,
+    allowance: u64,
+    buf: &[u8],
+    place: usize,
+) -> (Result<Body, Refusal>, u64) {
+    match expected(TagName { class: Class::Opening, number }, buf, place) {
+        Ok((_, start)) => after_opening(number, allowance, buf, start),
+        Err(refusal) => (Err(refusal), 0),
+    }
+}
+
+// Reads items until openings and closings of the number are balanced by one closing more.
+fn after_opening(
+    number: u8,
+    allowance: u64,
+    buf: &[u8],
+    start: usize,
+) -> (Result<Body, Refusal>, u64) {
+    let (mut place, mut count, mut open) = (start, 0, 1);
+    loop {
+        if count == allowance {
+            return (refuse(14, count as usize), count);
+        }
+        let (tag, next) = match tag(buf, place) {
+            Ok(read) => read,
+            Err(refusal) => return (Err(refusal), count),
+        };
+        count += 1;
+        match tag.name.class {
+            Class::Opening if tag.name.number == number => open += 1,
+            Class::Closing if tag.name.number == number => open -= 1,
+            _ => {}
+        }
+        if open == 0 {
+            return (Ok(Body { start, len: place - start, number, next }), count);
+        }
+        place = next + content_length(tag);
+    }
+}

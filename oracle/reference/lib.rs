@@ -1,0 +1,15 @@
+// Document 01 a second time, written from it and from the readings alone: what the port must answer to each request.
+pub mod bodies;
+pub mod headers;
+pub mod integers;
+pub mod reading;
+pub mod refusal;
+pub mod tags;
+pub mod utf8;
+pub mod values;
+pub mod walk;
+pub mod writing;
+
+mod answer;
+
+pub use answer::answer;
