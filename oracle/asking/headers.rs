@@ -17,10 +17,8 @@ pub fn read(reader: &mut Reader, buf: &[u8]) -> Option<String> {
     };
     let header = match (control >> 4, control & 8) {
         (0, 0) => request(reader, buf),
-        (2, _) => SimpleAck::decode(reader, buf).map(|ack| Header::Simple {
-            id: ack.invoke_id,
-            choice: ack.service_choice as u8,
-        }),
+        (2, _) => SimpleAck::decode(reader, buf)
+            .map(|ack| Header::Simple { id: ack.invoke_id, choice: ack.service_choice as u8 }),
         (3, 0) => complex(reader, buf),
         (4, _) => SegmentAck::decode(reader, buf).map(|ack| Header::Segment {
             id: ack.invoke_id,

@@ -30,7 +30,9 @@ fn asked(what: &Read, reader: &mut Reader, buf: &[u8]) -> Result<String, Error> 
         Read::Bytes(4) => hex(&reader.read_bytes::<4>(buf)?),
         Read::Bytes(_) => hex(&reader.read_bytes::<8>(buf)?),
         Read::Slice(len) => lies(reader.read_slice(*len as usize, buf)?, buf),
-        Read::Part(len) => return Ok(format!("ok {}", hex(reader.read_slice(*len as usize, buf)?))),
+        Read::Part(len) => {
+            return Ok(format!("ok {}", hex(reader.read_slice(*len as usize, buf)?)))
+        }
         Read::Unsigned(len) => decode_unsigned(*len, reader, buf)?.to_string(),
         Read::Signed(len) => decode_signed(*len, reader, buf)?.to_string(),
         Read::Tag => printed(&Tag::decode(reader, buf)?),

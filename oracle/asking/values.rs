@@ -80,9 +80,9 @@ pub fn value_of(value: &Value) -> Option<ApplicationDataValue<'_>> {
             ApplicationDataValue::CharacterString(CharacterString::new(text))
         }
         Value::Octets(octets) => ApplicationDataValue::OctetString(OctetString::new(octets)),
-        Value::Bits(unused, bits) => ApplicationDataValue::BitString(BitString::Custom(
-            CustomBitStream::new(*unused, bits),
-        )),
+        Value::Bits(unused, bits) => {
+            ApplicationDataValue::BitString(BitString::Custom(CustomBitStream::new(*unused, bits)))
+        }
         Value::Enumerated(value) => ApplicationDataValue::Enumerated(Enumerated::Unknown(*value)),
         Value::Unsigned(value) => ApplicationDataValue::UnsignedInt(*value),
         Value::Signed(value) => ApplicationDataValue::SignedInt(*value),

@@ -37,7 +37,10 @@ impl Programs<'_> {
         }
         if number < lines.len() || port.lines().count() != lines.len() {
             let found = port.lines().count();
-            return Err(Error::other(format!("{found} answers of the port to {} requests", lines.len())));
+            return Err(Error::other(format!(
+                "{found} answers of the port to {} requests",
+                lines.len()
+            )));
         }
         Ok(())
     }

@@ -43,5 +43,9 @@ fn run(seed: u64, count: u64, programs: &Programs, report: &mut Report) -> std::
         }
     });
     outcome?;
-    if lines.is_empty() { Ok(()) } else { programs.ask(&lines, report) }
+    if lines.is_empty() {
+        Ok(())
+    } else {
+        programs.ask(&lines, report)
+    }
 }

@@ -69,7 +69,11 @@ impl Report {
         }
         let number = self.unexplained.len();
         println!("\nseed {seed}: {} requests compared, {number} unexplained", self.total);
-        if number == 0 { ExitCode::SUCCESS } else { ExitCode::FAILURE }
+        if number == 0 {
+            ExitCode::SUCCESS
+        } else {
+            ExitCode::FAILURE
+        }
     }
 }
 

@@ -102,9 +102,7 @@ fn value(words: &mut Words) -> Option<Value> {
             year: words.number()?,
             rest: [words.number()?, words.number()?, words.number()?],
         },
-        "Time" => {
-            Value::Time([words.number()?, words.number()?, words.number()?, words.number()?])
-        }
+        "Time" => Value::Time([words.number()?, words.number()?, words.number()?, words.number()?]),
         "ObjectId" => Value::ObjectId { kind: words.number()?, instance: words.number()? },
         "Text" => Value::Text(words.bytes()?),
         "Octets" => Value::Octets(words.bytes()?),

@@ -71,10 +71,7 @@ pub fn hex(word: &str) -> Option<Vec<u8>> {
     if digits.is_empty() || digits.len() % 2 != 0 {
         return None;
     }
-    digits
-        .chunks(2)
-        .map(|pair| Some(digit(pair[0])? << 4 | digit(pair[1])?))
-        .collect()
+    digits.chunks(2).map(|pair| Some(digit(pair[0])? << 4 | digit(pair[1])?)).collect()
 }
 
 // Appends the hexadecimal digits of bytes, `-` for none.

@@ -48,7 +48,9 @@ fn read_answer(what: &Read, buf: &[u8], place: usize) -> String {
 
 fn body_answer((found, count): (Result<Body, Refusal>, u64)) -> String {
     match found {
-        Ok(Body { start, len, number, next }) => format!("ok {start} {len} {number} {next} {count}"),
+        Ok(Body { start, len, number, next }) => {
+            format!("ok {start} {len} {number} {next} {count}")
+        }
         Err(refusal) => format!("{refusal} {count}"),
     }
 }

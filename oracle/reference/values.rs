@@ -48,12 +48,20 @@ fn real(len: u32, buf: &[u8], place: usize) -> Result<(String, usize), Refusal> 
 
 pub fn one_real_nan(bits: u32) -> u32 {
     let is_nan = bits << 1 > 0xFF00_0000;
-    if is_nan { REAL_NAN } else { bits }
+    if is_nan {
+        REAL_NAN
+    } else {
+        bits
+    }
 }
 
 pub fn one_double_nan(bits: u64) -> u64 {
     let is_nan = bits << 1 > 0xFFE0_0000_0000_0000;
-    if is_nan { DOUBLE_NAN } else { bits }
+    if is_nan {
+        DOUBLE_NAN
+    } else {
+        bits
+    }
 }
 
 fn octets(len: u32, buf: &[u8], place: usize) -> Result<(String, usize), Refusal> {

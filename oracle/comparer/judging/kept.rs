@@ -22,10 +22,9 @@ pub fn row(request: &Request, answer: &str) -> Option<&'static str> {
             };
             crosses.then_some("blocks crossing inside a body")
         }
-        Request::Read { what: Read::Header, place, buf } => {
-            (buf[*place] > 0x40 && words.next() == Some("segment"))
-                .then_some("flag bits of a segment acknowledgement")
-        }
+        Request::Read { what: Read::Header, place, buf } => (buf[*place] > 0x40
+            && words.next() == Some("segment"))
+        .then_some("flag bits of a segment acknowledgement"),
         Request::Write { what: Write::Value(Value::Double(_)), .. } => {
             Some("Double under the Real tag")
         }
@@ -59,7 +58,8 @@ fn value_row(
         "Bits" => {
             let unused: u8 = first.parse().ok()?;
             let empty = third == Some("0");
-            (unused > 7 || (unused > 0 && empty)).then_some("unused counts above 7 or with no bytes")
+            (unused > 7 || (unused > 0 && empty))
+                .then_some("unused counts above 7 or with no bytes")
         }
         _ => None,
     }

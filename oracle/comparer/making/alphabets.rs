@@ -1,9 +1,8 @@
 // All short buffers over an alphabet of tag bytes.
 use crate::making::lines::read;
 
-const TAG_BYTES: [u8; 15] = [
-    0x00, 0x02, 0x11, 0x15, 0x21, 0x25, 0x2E, 0x2F, 0x39, 0x3D, 0x3E, 0x3F, 0xF9, 0xFE, 0xFF,
-];
+const TAG_BYTES: [u8; 15] =
+    [0x00, 0x02, 0x11, 0x15, 0x21, 0x25, 0x2E, 0x2F, 0x39, 0x3D, 0x3E, 0x3F, 0xF9, 0xFE, 0xFF];
 const BLOCK_BYTES: [u8; 7] = [0x11, 0x15, 0x21, 0x2E, 0x2F, 0x3E, 0x3F];
 
 const ASKS: [&str; 5] = ["body 9", "bodyfor 3 9", "bodyfor 2 9", "walk", "value"];
@@ -14,7 +13,11 @@ pub const SIZE: u64 = words(15, 4) * 5;
 pub const BLOCKS_SIZE: u64 = words(7, 6) * 2;
 
 const fn words(letters: u64, longest: u32) -> u64 {
-    if longest == 0 { 0 } else { letters.pow(longest) + words(letters, longest - 1) }
+    if longest == 0 {
+        0
+    } else {
+        letters.pow(longest) + words(letters, longest - 1)
+    }
 }
 
 pub fn nth(number: u64) -> String {

@@ -13,10 +13,17 @@ fn value_ask(random: &mut Random) -> String {
         1 => format!("wval Real {:08x}", random.number() as u32),
         2 => format!("wval Double {:016x}", random.number()),
         3 => {
-            let year = if random.once_in(2) { 1900 + random.below(256) } else { random.below(65_536) };
+            let year =
+                if random.once_in(2) { 1900 + random.below(256) } else { random.below(65_536) };
             format!("wval Date {year} {} {} {}", random.byte(), random.byte(), random.byte())
         }
-        4 => format!("wval Time {} {} {} {}", random.byte(), random.byte(), random.byte(), random.byte()),
+        4 => format!(
+            "wval Time {} {} {} {}",
+            random.byte(),
+            random.byte(),
+            random.byte(),
+            random.byte()
+        ),
         5 => format!("wval ObjectId {} {}", random.below(1100), random.below(4_300_000)),
         6 => with_bytes("wval Text", &content.iter().map(|byte| byte % 128).collect::<Vec<_>>()),
         7 => with_bytes("wval Octets", &content),
@@ -33,6 +40,9 @@ pub fn value(random: &mut Random) -> String {
     let mut buf = random.bytes(before);
     if let Some(Request::Write { what, .. }) = parse(&written(&value_ask(random), 0, 0)) {
         buf.extend(reference::writing::bytes(&what).unwrap_or_default());
+    }
+    if buf.get(before).is_some_and(|tag| tag >> 4 == 2) && random.once_in(2) {
+        buf[before] += 0x70; // an unsigned of any size under the enumerated tag
     }
     let after = random.up_to(3);
     buf.extend(random.bytes(after));
@@ -82,8 +92,9 @@ pub fn write(random: &mut Random) -> String {
     let class = random.of(&["A", "C", "O", "X"]);
     let number = if class == "A" { random.byte() % 16 } else { random.byte() };
     let value = random.integer();
-    let choice = if random.once_in(2) { random.of(&[5, 12, 14, 15, 26, 33, 34]) } else { random.byte() };
-    let ask = match random.below(10) {
+    let choice =
+        if random.once_in(2) { random.of(&[5, 12, 14, 15, 26, 33, 34]) } else { random.byte() };
+    let ask = match random.below(12) {
         0 => format!("wtag {class} {number} {}", value as u32),
         1 => format!("wuns {context} {value}"),
         2 => format!("wsig {context} {}", value as i64),
@@ -91,6 +102,8 @@ pub fn write(random: &mut Random) -> String {
         4 => format!("wreq {} {} {} {choice}", random.below(18), random.below(18), random.byte()),
         5 => format!("wsim {} {choice}", random.byte()),
         6 => format!("wcom {} {choice}", random.byte()),
+        7 => format!("wseg {} {} {}", random.byte(), random.byte(), random.byte()),
+        8 => with_bytes("wext", &value.to_be_bytes()[..random.up_to(8)]),
         _ => value_ask(random),
     };
     let (need, place) = (need(&ask), random.up_to(4));

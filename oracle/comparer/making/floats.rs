@@ -2,8 +2,20 @@
 use crate::making::lines::{in_rooms, read};
 
 const REALS: [u32; 14] = [
-    0, 1, 0x007F_FFFF, 0x0080_0000, 0x3F80_0000, 0x7F7F_FFFF, 0x7F80_0000, 0x7F80_0001, 0x7FBF_FFFF,
-    0x7FC0_0000, 0x7FC0_0001, 0x7FFF_FFFF, 0x4290_0000, 0x7FA5_5AA5,
+    0,
+    1,
+    0x007F_FFFF,
+    0x0080_0000,
+    0x3F80_0000,
+    0x7F7F_FFFF,
+    0x7F80_0000,
+    0x7F80_0001,
+    0x7FBF_FFFF,
+    0x7FC0_0000,
+    0x7FC0_0001,
+    0x7FFF_FFFF,
+    0x4290_0000,
+    0x7FA5_5AA5,
 ];
 
 pub fn all() -> Vec<String> {

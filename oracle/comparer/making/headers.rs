@@ -14,7 +14,8 @@ pub fn all() -> Vec<String> {
             lines.push(read("header", 0, &[control, byte, 0x0E, 0x0E]));
         }
         for ask in ["wsim {/} {}", "wcom {} {/}", "wcom 1 {}", "wseg {} {/} 4", "wreq 7 4 {} {/}"] {
-            let ask = ask.replace("{/}", &(255 - byte).to_string()).replace("{}", &byte.to_string());
+            let ask =
+                ask.replace("{/}", &(255 - byte).to_string()).replace("{}", &byte.to_string());
             let few = if byte % 32 < 4 { 10 } else { 2 };
             lines.extend(in_rooms(&ask).into_iter().take(few));
         }

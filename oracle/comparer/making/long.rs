@@ -16,7 +16,8 @@ fn readings(length: usize, lines: &mut Vec<String>) {
     body[0] = 0x3E;
     body[length - 1] = 0x3F;
     let opened = vec![0x3E; length];
-    for (buf, place) in [(&null, 0), (&body, 0), (&opened, 0), (&body, length - 1), (&body, length)] {
+    for (buf, place) in [(&null, 0), (&body, 0), (&opened, 0), (&body, length - 1), (&body, length)]
+    {
         for ask in ["walk", "body 70000", "bodyfor 3 70000", "body 65533", "tag", "utf8", "rbyte"] {
             lines.push(read(ask, place, buf));
         }
@@ -36,7 +37,8 @@ fn readings(length: usize, lines: &mut Vec<String>) {
 }
 
 fn writings(length: usize, lines: &mut Vec<String>) {
-    for ask in ["wuns - 256", "wtag A 6 65535", "wopen 3", "wreq 7 4 1 12", "wval Date 2000 1 1 1"] {
+    for ask in ["wuns - 256", "wtag A 6 65535", "wopen 3", "wreq 7 4 1 12", "wval Date 2000 1 1 1"]
+    {
         lines.push(write(ask, length - 4, length));
         lines.push(write(ask, length, length));
         lines.push(write(ask, usize::MAX, length));

@@ -1,9 +1,22 @@
 // Lines that are no requests.
 pub fn all() -> Vec<String> {
     let lines = [
-        "", "foo", "tag", "tag 0", "tag 0 0", "tag 0 zz", "tag x 00", "tag -1 00", "rbytes 3 0 00",
-        "expect B 1 0 00", "expect A 16 0 00", "wtag A 16 0 0 8", "wbool 1 2 0 8", "wval Null 0 8",
-        "wsim 1 256 0 8", "wpush 00 0",
+        "",
+        "foo",
+        "tag",
+        "tag 0",
+        "tag 0 0",
+        "tag 0 zz",
+        "tag x 00",
+        "tag -1 00",
+        "rbytes 3 0 00",
+        "expect B 1 0 00",
+        "expect A 16 0 00",
+        "wtag A 16 0 0 8",
+        "wbool 1 2 0 8",
+        "wval Null 0 8",
+        "wsim 1 256 0 8",
+        "wpush 00 0",
     ];
     lines.iter().map(|line| line.to_string()).collect()
 }

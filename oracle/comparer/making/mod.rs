@@ -31,7 +31,7 @@ enum Family {
 const FAMILIES: &[(u64, Family)] = &[
     (1, Family::Listed(malformed::all)),
     (70, Family::Listed(integers::all)),
-    (120, Family::Listed(tags::all)),
+    (135, Family::Listed(tags::all)),
     (45, Family::Listed(values::all)),
     (11, Family::Listed(contents::all)),
     (20, Family::Listed(dates::all)),
@@ -89,5 +89,9 @@ fn spread(size: u64, wanted: u64, random: &mut Random, mut take: impl FnMut(u64)
 }
 
 fn greatest_divisor(a: u64, b: u64) -> u64 {
-    if b == 0 { a } else { greatest_divisor(b, a % b) }
+    if b == 0 {
+        a
+    } else {
+        greatest_divisor(b, a % b)
+    }
 }

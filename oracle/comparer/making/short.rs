@@ -30,8 +30,8 @@ fn ask_of(number: u64, place: usize, buf: &[u8]) -> String {
     let first = buf.get(place).copied().unwrap_or(0x3E);
     let other = buf.last().copied().unwrap_or(0) % 2;
     let asks = [
-        "rbyte", "rbytes 2", "rslice 1", "part 2", "uns 1", "uns 2", "sig 1", "sig 2", "tag", "walk",
-        "value", "utf8", "header", "body 9",
+        "rbyte", "rbytes 2", "rslice 1", "part 2", "uns 1", "uns 2", "sig 1", "sig 2", "tag",
+        "walk", "value", "utf8", "header", "body 9",
     ];
     match number {
         14 => format!("bodyfor {} 9", (first >> 4) + other),

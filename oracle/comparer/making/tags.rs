@@ -3,8 +3,32 @@ use crate::making::lines::{in_rooms, read};
 
 const NUMBERS: [u8; 8] = [0, 1, 13, 14, 15, 16, 254, 255];
 const VALUES: [u32; 26] = [
-    0, 1, 4, 5, 6, 252, 253, 254, 255, 256, 300, 509, 510, 511, 512, 65_533, 65_534, 65_535, 65_536,
-    65_790, 65_791, 66_047, 16_777_215, 16_777_216, 4_294_967_294, 4_294_967_295,
+    0,
+    1,
+    4,
+    5,
+    6,
+    252,
+    253,
+    254,
+    255,
+    256,
+    300,
+    509,
+    510,
+    511,
+    512,
+    65_533,
+    65_534,
+    65_535,
+    65_536,
+    65_790,
+    65_791,
+    66_047,
+    16_777_215,
+    16_777_216,
+    4_294_967_294,
+    4_294_967_295,
 ];
 
 pub fn all() -> Vec<String> {
@@ -35,7 +59,7 @@ pub fn all() -> Vec<String> {
 
 // Every first byte before each marker and up to five bytes more.
 fn long_forms(first: u8, lines: &mut Vec<String>) {
-    for marker in [5, 253, 254, 255] {
+    for marker in [5, 15, 253, 254, 255] {
         for more in 0..=5 {
             let mut buf = vec![first, marker];
             buf.extend((1..=more).map(|byte| if byte == 1 { marker } else { byte }));

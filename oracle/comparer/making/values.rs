@@ -3,7 +3,27 @@ use crate::making::lines::read;
 use reference::tags::{application, tag_bytes};
 
 const LENGTHS: [u32; 22] = [
-    0, 1, 2, 3, 4, 5, 6, 7, 8, 9, 10, 12, 252, 253, 254, 255, 256, 300, 65_535, 65_536, 1 << 24,
+    0,
+    1,
+    2,
+    3,
+    4,
+    5,
+    6,
+    7,
+    8,
+    9,
+    10,
+    12,
+    252,
+    253,
+    254,
+    255,
+    256,
+    300,
+    65_535,
+    65_536,
+    1 << 24,
     u32::MAX,
 ];
 
@@ -19,7 +39,8 @@ pub fn all() -> Vec<String> {
             }
         }
         for overlong in [vec![5, 4], vec![5, 254, 0, 4], vec![5, 255, 0, 0, 0, 4]] {
-            let tag: Vec<u8> = std::iter::once(kind << 4 | 5).chain(overlong[1..].to_vec()).collect();
+            let tag: Vec<u8> =
+                std::iter::once(kind << 4 | 5).chain(overlong[1..].to_vec()).collect();
             lines.push(value(&tag, 4, 0, 0x42));
             lines.push(value(&tag, 3, 0, 0x42));
         }
