@@ -1,4 +1,4 @@
-// compare: makes requests, asks the Rust, the reference and the port, and judges their answers.
+// Makes requests, asks the Rust, the reference and the port, and judges their answers; or prints the requests alone.
 mod batch;
 mod judging;
 mod making;
@@ -13,17 +13,25 @@ const BATCH: usize = 50_000;
 
 fn main() -> ExitCode {
     let words: Vec<String> = std::env::args().skip(1).collect();
-    let [seed, count, folder, rust, reference, port] = &words[..] else {
-        eprintln!("usage: comparer SEED COUNT FOLDER RUST REFERENCE PORT");
-        return ExitCode::from(2);
-    };
-    let (Ok(seed), Ok(count)) = (seed.parse(), count.parse()) else {
-        eprintln!("SEED and COUNT are numbers");
-        return ExitCode::from(2);
-    };
-    let programs = Programs { folder, rust, reference, port };
+    let numbers: Vec<u64> = words.iter().take(2).flat_map(|word| word.parse()).collect();
+    match (&numbers[..], &words[numbers.len()..]) {
+        ([seed, count], []) => {
+            making::make(*seed, *count, |line| println!("{line}"));
+            ExitCode::SUCCESS
+        }
+        ([seed, count], [folder, rust, reference, port]) => {
+            compare(*seed, *count, &Programs { folder, rust, reference, port })
+        }
+        _ => {
+            eprintln!("usage: comparer SEED COUNT [FOLDER RUST REFERENCE PORT]");
+            ExitCode::from(2)
+        }
+    }
+}
+
+fn compare(seed: u64, count: u64, programs: &Programs) -> ExitCode {
     let mut report = Report::default();
-    match run(seed, count, &programs, &mut report) {
+    match run(seed, count, programs, &mut report) {
         Ok(()) => report.print(seed),
         Err(error) => {
             eprintln!("oracle: {error}");
