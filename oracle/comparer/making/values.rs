@@ -38,9 +38,8 @@ pub fn all() -> Vec<String> {
                 }
             }
         }
-        for overlong in [vec![5, 4], vec![5, 254, 0, 4], vec![5, 255, 0, 0, 0, 4]] {
-            let tag: Vec<u8> =
-                std::iter::once(kind << 4 | 5).chain(overlong[1..].to_vec()).collect();
+        for overlong in [&[4][..], &[254, 0, 4], &[255, 0, 0, 0, 4]] {
+            let tag = [&[kind << 4 | 5], overlong].concat();
             lines.push(value(&tag, 4, 0, 0x42));
             lines.push(value(&tag, 3, 0, 0x42));
         }
