@@ -1,0 +1,123 @@
+-- Digits: the values of bytes by their range, and what pairs of digits come to, from a place on, up to a newline and by their number.
+-- Assumes nothing.
+use mathlib.Core.Path.{_≡_, refl, _∙_, ap, sym}
+use mathlib.Core.Bool.{Bool, true, false}
+use mathlib.Core.List.{List, [], _∷_}
+use Prim.Native.Nat.{ℕ, zero, suc, _+_, _-_, _*_, _≤_, _<_}
+use native.Mathlib.Omega.{arith}
+use lib.Dec.{ltb, eqb}
+use lib.ListN.{length, take, drop, getD, length-take}
+use lib.Seq.{drop-cons, take-all, length-take-le}
+use borrow.Author.Tests.{lt-ltb, le-ltb, ltb-true, ltb-false, eq-eqb, ne-eqb, eqb-true, eqb-false}
+use Rattle.types.specs.Choice.{if}
+use Rattle.types.proofs.Choices.{either}
+use Rattle.dump.specs.Hexadecimal.{nibbleOf, pairs, leading, isFrame, textBy, textOf}
+use Rattle.dump.specs.Lines.{upTo}
+
+-- the ranges of bytes
+module _ (c : ℕ) where
+  pub before-decimal : c < 48 → nibbleOf c ≡ 16
+  unfolding nibbleOf
+  before-decimal h = simp (lt-ltb c 48 h)
+
+  pub decimal-digit : 48 ≤ c → c ≤ 57 → nibbleOf c ≡ c - 48
+  unfolding nibbleOf
+  decimal-digit h k = simp (le-ltb c 48 h, lt-ltb c 58 (omega arith))
+
+  pub before-capital : 57 < c → c < 65 → nibbleOf c ≡ 16
+  unfolding nibbleOf
+  before-capital h k = simp (le-ltb c 48 (omega arith), le-ltb c 58 (omega arith), lt-ltb c 65 k)
+
+  pub capital-digit : 65 ≤ c → c ≤ 70 → nibbleOf c ≡ c - 55
+  unfolding nibbleOf
+  capital-digit h k = simp (le-ltb c 48 (omega arith), le-ltb c 58 (omega arith), le-ltb c 65 h, lt-ltb c 71 (omega arith))
+
+  pub before-small : 70 < c → c < 97 → nibbleOf c ≡ 16
+  unfolding nibbleOf
+  before-small h k = simp (le-ltb c 48 (omega arith), le-ltb c 58 (omega arith), le-ltb c 65 (omega arith), le-ltb c 71 (omega arith), lt-ltb c 97 k)
+
+  pub small-digit : 97 ≤ c → c ≤ 102 → nibbleOf c ≡ c - 87
+  unfolding nibbleOf
+  small-digit h k = simp (le-ltb c 48 (omega arith), le-ltb c 58 (omega arith), le-ltb c 65 (omega arith), le-ltb c 71 (omega arith), le-ltb c 97 h, lt-ltb c 103 (omega arith))
+
+  pub after-small : 102 < c → nibbleOf c ≡ 16
+  unfolding nibbleOf
+  after-small h = simp (le-ltb c 48 (omega arith), le-ltb c 58 (omega arith), le-ltb c 65 (omega arith), le-ltb c 71 (omega arith), le-ltb c 97 (omega arith), le-ltb c 103 (omega arith))
+
+-- a newline is no digit
+pub newline-no-digit : (c : ℕ) → eqb c 10 ≡ true → ltb 15 (nibbleOf c) ≡ true
+newline-no-digit c e = let h : c ≡ 10 = eqb-true c 10 e in lt-ltb 15 (nibbleOf c) (omega (arith, before-decimal c (omega arith)))
+
+pub digit-no-newline : (c : ℕ) → ltb 15 (nibbleOf c) ≡ false → eqb c 10 ≡ false
+digit-no-newline c e = ne-eqb c 10 (λ h. let k : nibbleOf c ≤ 15 = ltb-false 15 (nibbleOf c) e in absurd (omega (arith, before-decimal c (omega arith))))
+
+-- two digits at a place
+pub pairs-step : (xs : List ℕ) (at : ℕ) → at + 1 < length xs
+    → pairs (drop at xs) ≡ if (ltb 15 (nibbleOf (getD xs at 0))) [] (if (ltb 15 (nibbleOf (getD xs (at + 1) 0))) [] ((nibbleOf (getD xs at 0) * 16 + nibbleOf (getD xs (at + 1) 0)) ∷ pairs (drop (at + 2) xs)))
+pairs-step xs at h =
+    let a : drop at xs ≡ getD xs at 0 ∷ drop (suc at) xs = drop-cons xs at 0 (omega arith) in
+    let b : drop (suc at) xs ≡ getD xs (suc at) 0 ∷ drop (suc (suc at)) xs = drop-cons xs (suc at) 0 (omega arith) in
+    let one : at + 1 ≡ suc at = omega arith in
+    let two : at + 2 ≡ suc (suc at) = omega arith in
+    rw (a, b, one, two) refl
+
+-- less than two bytes are no pair
+pub pairs-short : (l : List ℕ) → length l < 2 → pairs l ≡ []
+pairs-short [] h = refl
+pairs-short (a ∷ []) h = refl
+pairs-short (a ∷ b ∷ r) h = absurd (omega arith)
+
+-- each byte takes two digits
+pub two-digits-each : (l : List ℕ) → length (pairs l) + length (pairs l) ≤ length l
+two-digits-each [] = omega arith
+two-digits-each (a ∷ []) = omega arith
+two-digits-each (a ∷ b ∷ r) =
+    either (λ (m : List ℕ). length m + length m ≤ suc (suc (length r))) (ltb 15 (nibbleOf a))
+    (λ e. omega arith)
+    (λ e. either (λ (m : List ℕ). length m + length m ≤ suc (suc (length r))) (ltb 15 (nibbleOf b)) (λ d. omega arith) (λ d. omega (arith, two-digits-each r)))
+
+-- the pairs of digits are those of the line: none of them goes past a newline
+pub pairs-of-line : (xs : List ℕ) → pairs (upTo xs) ≡ pairs xs
+pairs-of-line [] = refl
+pairs-of-line (a ∷ []) = either (λ (m : List ℕ). pairs m ≡ []) (eqb a 10) (λ e. refl) (λ e. refl)
+pairs-of-line (a ∷ b ∷ r) =
+    either (λ (m : List ℕ). pairs m ≡ pairs (a ∷ b ∷ r)) (eqb a 10)
+    (λ e. rw (newline-no-digit a e) refl)
+    (λ e. either (λ (m : List ℕ). pairs (a ∷ m) ≡ pairs (a ∷ b ∷ r)) (eqb b 10)
+    (λ d. rw (newline-no-digit b d) (either (λ (m : List ℕ). [] ≡ m) (ltb 15 (nibbleOf a)) (λ f. refl) (λ f. refl)))
+    (λ d. rw (pairs-of-line r) refl))
+
+-- so a line goes on behind as many of its pairs as one likes
+pub line-behind-pairs : (n : ℕ) (xs : List ℕ) → n ≤ length (pairs xs) → length (upTo xs) ≡ n + n + length (upTo (drop (n + n) xs))
+line-behind-pairs zero xs h = omega arith
+line-behind-pairs (suc n) [] h = absurd (omega arith)
+line-behind-pairs (suc n) (a ∷ []) h = absurd (omega arith)
+line-behind-pairs (suc n) (a ∷ b ∷ r) h =
+    let two : suc n + suc n ≡ suc (suc (n + n)) = omega arith in
+    rw two
+    (either (λ (m : List ℕ). suc n ≤ length m → length (upTo (a ∷ b ∷ r)) ≡ suc (suc (n + n)) + length (upTo (drop (n + n) r))) (ltb 15 (nibbleOf a))
+    (λ e k. absurd (omega arith))
+    (λ e. either (λ (m : List ℕ). suc n ≤ length m → length (upTo (a ∷ b ∷ r)) ≡ suc (suc (n + n)) + length (upTo (drop (n + n) r))) (ltb 15 (nibbleOf b))
+    (λ d k. absurd (omega arith))
+    (λ d k. rw (digit-no-newline a e, digit-no-newline b d) (omega (arith, line-behind-pairs n r (omega arith)))))
+    h)
+
+-- no more bytes than a frame has, and no more than there are
+pub leading-count : (l : List ℕ) → (length (leading l) ≤ 1476) × (length (leading l) ≤ length (pairs l)) × (length (pairs l) ≤ 1476 → leading l ≡ pairs l) × (1476 < length (pairs l) → length (leading l) ≡ 1476)
+leading-count l =
+    (omega (arith, length-take 1476 (pairs l)), omega (arith, length-take 1476 (pairs l)), (λ h. take-all 1476 (pairs l) h), (λ h. length-take-le 1476 (pairs l) (omega arith)))
+
+-- a line whose digits end where the line ends is a frame, and no other
+pub text-by-count : (number : ℕ) (l : List ℕ) (good : Bool) → eqb (length l) (length (leading l) + length (leading l)) ≡ good → textBy good number (leading l) ≡ textOf number l
+unfolding textOf isFrame
+text-by-count number l true e =
+    let h : length l ≡ length (leading l) + length (leading l) = eqb-true _ _ e in
+    let w = leading-count l in
+    let s : length (pairs l) ≡ length (leading l) = omega (arith, two-digits-each l, w .0, w .1) in
+    rw (le-ltb 2952 (length l) (omega (arith, w .0)), eq-eqb (length l) (length (pairs l) + length (pairs l)) (omega arith), w .2 (omega (arith, w .0))) refl
+text-by-count number l false e =
+    let h : length l ≡ length (leading l) + length (leading l) → ⊥ = eqb-false _ _ e in
+    let w = leading-count l in
+    sym (either (λ (t : Bool). textBy t number (pairs l) ≡ textBy false number (leading l)) (ltb 2952 (length l))
+    (λ d. refl)
+    (λ d. rw (ne-eqb (length l) (length (pairs l) + length (pairs l)) (λ k. let q : length l ≤ 2952 = ltb-false 2952 (length l) d in h (rw (w .2 (omega arith)) k))) refl))

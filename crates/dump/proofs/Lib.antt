@@ -1,0 +1,15 @@
+pub mod Decimal
+pub mod Puts
+pub mod TagLines
+pub mod Digits
+pub mod Decoding
+pub mod Ends
+pub mod Moved
+pub mod LineTexts
+pub mod Spelled
+pub mod Placed
+pub mod Single
+pub mod Cut
+pub mod Called
+pub mod Streamed
+pub mod Readable

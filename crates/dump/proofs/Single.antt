@@ -1,0 +1,21 @@
+-- No two answers of a call for a line's text are the same on paper, so its promise admits a single one.
+-- Assumes nothing.
+use mathlib.Core.Path.{_≡_, refl, ap}
+use Rattle.types.specs.Refusal.{row}
+use Rattle.types.proofs.Single.{told-apart, programRefusal, refusal-back}
+use Rattle.dump.specs.Lines.{Answer, put, none, refused, paperPut}
+use Rattle.dump.specs.declared.line.LinePut.{LinePut}
+use Rattle.dump.specs.declared.line.LinePut.the-variants as p
+
+abbrev answered : Answer → LinePut
+answered (put next place) = p.Put next place
+answered none = p.NoLine
+answered (refused k c) = p.Refused (programRefusal (row k c))
+
+answered-back : (x : LinePut) → answered (paperPut x) ≡ x
+answered-back (p.Put next place) = refl
+answered-back p.NoLine = refl
+answered-back (p.Refused x) = ap p.Refused (refusal-back x)
+
+pub single-put : (x y : LinePut) → paperPut x ≡ paperPut y → x ≡ y
+single-put = told-apart paperPut answered answered-back

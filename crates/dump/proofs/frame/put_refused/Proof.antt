@@ -1,0 +1,50 @@
+-- `dump::put_refused` meets its contract: the frame's number, the word and the refusal's number are one line.
+-- Assumes nothing.
+use Rattle.dump.proofs.Puts.{then-line}
+use Rattle.dump.specs.Frame.{refusedLine}
+use Rattle.dump.specs.Text.{decimal}
+use lib.Dec.{lit<}
+use native.Mathlib.Omega.{arith}
+use mathlib.Core.List.{[], _∷_}
+use borrow.Author.Needs.{needs}
+use Rattle.dump.proofs.frame.put_refused.Statement.{statement}
+use Rattle.dump.proofs.frame.put_refused.Tie as tie
+
+put-number-requires : tie.Need-put-number-requires
+put-number-requires c κs = search needs
+
+slice-aggregate-put-word : tie.Need-slice-aggregate-put-word
+slice-aggregate-put-word c = search needs
+
+put-word-requires : tie.Need-put-word-requires
+put-word-requires c κs = search needs
+
+number-requires : tie.Need-number-requires
+number-requires c κs = search needs
+
+cast-put-number : tie.Need-cast-put-number
+cast-put-number c = search needs
+
+put-number-requires-2 : tie.Need-put-number-requires-2
+put-number-requires-2 c κs = search needs
+
+same-length : tie.Need-same-length
+same-length c = search needs
+
+returns : tie.Need-returns
+unfolding refusedLine
+returns c = let a = c .before .before .before .before .before .before .before .before .before .before .before .before .before .before .before .args in
+    (rw (← c .before .before .before .number .ensures) (then-line (decimal (a .number)) ((114 ∷ 101 ∷ 102 ∷ 117 ∷ 115 ∷ 101 ∷ 100 ∷ []) ∷ decimal (c .before .before .before .number .result) ∷ []) (lit< tt) (c .before .before .before .before .before .before .before .before .before .before .before .before .put-number .ensures .0) (then-line (114 ∷ 101 ∷ 102 ∷ 117 ∷ 115 ∷ 101 ∷ 100 ∷ []) (decimal (c .before .before .before .number .result) ∷ []) (lit< tt) (c .before .before .before .before .before .before .before .put-word .ensures .0) (c .before .before .put-number2 .ensures .0))), omega arith)
+
+pub put-refused-spec : {M : Type 1} → statement M
+put-refused-spec =
+    tie.close
+    (tie.spec
+    put-number-requires
+    slice-aggregate-put-word
+    put-word-requires
+    number-requires
+    cast-put-number
+    put-number-requires-2
+    same-length
+    returns)

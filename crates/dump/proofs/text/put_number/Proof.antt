@@ -1,0 +1,185 @@
+-- `dump::put_number` meets its contract: the digits, one to four or as many as there are, and the byte behind them.
+-- Assumes nothing.
+use Rattle.dump.proofs.Decimal.{decimal-one, decimal-two, decimal-three, decimal-four, decimal-most}
+use Rattle.dump.proofs.Puts.{then, one, two}
+use Rattle.dump.specs.Text.{Wrote, digits}
+use lib.ListN.{set, length-set}
+use native.Mathlib.Omega.{arith}
+use Prim.Native.Nat.{_+_, _/_, _%_, _^_, _<_}
+use mathlib.Core.List.{[], _∷_}
+use mathlib.Core.Path.{_≡_, refl}
+use borrow.Author.Needs.{needs}
+use Rattle.dump.proofs.text.put_number.Statement.{statement}
+use Rattle.dump.proofs.text.put_number.Tie as tie
+
+cast-out : tie.Need-cast-out
+cast-out c = search needs
+
+add-out : tie.Need-add-out
+add-out c = search needs
+
+slice-write-out : tie.Need-slice-write-out
+slice-write-out c = search needs
+
+add-out-2 : tie.Need-add-out-2
+add-out-2 c = search needs
+
+slice-write-out-2 : tie.Need-slice-write-out-2
+slice-write-out-2 c = simp length-set (omega arith)
+
+add-result : tie.Need-add-result
+add-result c = search needs
+
+same-length : tie.Need-same-length
+same-length c = search needs
+
+returns : tie.Need-returns
+returns c = let a = c .before .before .args in
+    (rw (decimal-one (a .n) (c .if1 .taken)) (two (a .out .now) (a .at) (48 + a .n) (a .end)), omega arith)
+
+put-two-requires : tie.Need-put-two-requires
+put-two-requires c κs = search needs
+
+add-out-3 : tie.Need-add-out-3
+add-out-3 c = search needs
+
+slice-write-out-3 : tie.Need-slice-write-out-3
+slice-write-out-3 c = search needs
+
+add-result-2 : tie.Need-add-result-2
+add-result-2 c = search needs
+
+same-length-2 : tie.Need-same-length-2
+same-length-2 c = search needs
+
+returns-2 : tie.Need-returns-2
+returns-2 c = let a = c .before .before .before .before .before .before .before .args in
+    let w : Wrote (a .out .now) (a .at) (digits 2 (a .n)) (c .before .before .put-two .last .0) (a .at + 2) = c .before .before .put-two .ensures in
+    (rw (decimal-two (a .n) (c .before .before .before .before .before .if1 .left) (c .before .before .before .before .if2 .taken)) (then w (one (c .before .before .put-two .last .0) (a .at + 2) (a .end) (omega arith))), omega arith)
+
+cast-out-2 : tie.Need-cast-out-2
+cast-out-2 c = search needs
+
+add-out-4 : tie.Need-add-out-4
+add-out-4 c = search needs
+
+slice-write-out-4 : tie.Need-slice-write-out-4
+slice-write-out-4 c = search needs
+
+add-put-two : tie.Need-add-put-two
+add-put-two c = search needs
+
+put-two-requires-2 : tie.Need-put-two-requires-2
+put-two-requires-2 c κs = (simp length-set (omega arith), omega arith)
+
+add-out-5 : tie.Need-add-out-5
+add-out-5 c = search needs
+
+slice-write-out-5 : tie.Need-slice-write-out-5
+slice-write-out-5 c = let a = c .before .before .before .before .before .before .before .before .args in omega (arith, length-set (a .out .now) (a .at) (48 + a .n / 100))
+
+add-result-3 : tie.Need-add-result-3
+add-result-3 c = search needs
+
+same-length-3 : tie.Need-same-length-3
+same-length-3 c = let a = c .before .before .before .before .before .before .before .before .args in simp length-set (omega (arith, length-set (a .out .now) (a .at) (48 + a .n / 100)))
+
+returns-3 : tie.Need-returns-3
+returns-3 c = let a = c .before .before .before .before .before .before .before .before .args in
+    let f : Wrote (a .out .now) (a .at) ((48 + a .n / 100) ∷ []) (set (a .out .now) (a .at) (48 + a .n / 100)) (a .at + 1) = one (a .out .now) (a .at) (48 + a .n / 100) refl in
+    let w : Wrote (set (a .out .now) (a .at) (48 + a .n / 100)) (a .at + 1) (digits 2 (a .n % 100)) (c .before .before .put-two2 .last .0) (a .at + 1 + 2) = c .before .before .put-two2 .ensures in
+    let e : a .at + 1 + 2 ≡ a .at + 3 = omega arith in
+    (rw (decimal-three (a .n) (c .before .before .before .before .before .if2 .left) (c .before .before .before .before .if3 .taken)) (then (then f (rw e at w)) (one (c .before .before .put-two2 .last .0) (a .at + 3) (a .end) (omega arith))), omega arith)
+
+put-two-requires-3 : tie.Need-put-two-requires-3
+put-two-requires-3 c κs = search needs
+
+add-put-two-2 : tie.Need-add-put-two-2
+add-put-two-2 c = search needs
+
+put-two-requires-4 : tie.Need-put-two-requires-4
+put-two-requires-4 c κs = search needs
+
+add-out-6 : tie.Need-add-out-6
+add-out-6 c = search needs
+
+slice-write-out-6 : tie.Need-slice-write-out-6
+slice-write-out-6 c = search needs
+
+add-result-4 : tie.Need-add-result-4
+add-result-4 c = search needs
+
+same-length-4 : tie.Need-same-length-4
+same-length-4 c = simp length-set (omega arith)
+
+returns-4 : tie.Need-returns-4
+returns-4 c = let a = c .before .before .before .before .before .before .before .before .before .before .before .before .before .args in
+    let v : Wrote (a .out .now) (a .at) (digits 2 (a .n / 100)) (c .before .before .before .before .before .before .put-two3 .last .0) (a .at + 2) = c .before .before .before .before .before .before .put-two3 .ensures in
+    let w : Wrote (c .before .before .before .before .before .before .put-two3 .last .0) (a .at + 2) (digits 2 (a .n % 100)) (c .before .before .put-two4 .last .0) (a .at + 2 + 2) = c .before .before .put-two4 .ensures in
+    let e : a .at + 2 + 2 ≡ a .at + 4 = omega arith in
+    (rw (decimal-four (a .n) (c .before .before .before .before .before .before .before .before .before .if3 .left) (c .before .before .before .before .before .before .before .before .if4 .taken)) (then (then v (rw e at w)) (one (c .before .before .put-two4 .last .0) (a .at + 4) (a .end) (omega arith))), omega arith)
+
+put-digits-requires : tie.Need-put-digits-requires
+put-digits-requires c κs = let a = c .before .before .before .before .before .before .args in
+    let h : a .n < 10 ^ 20 = omega arith in
+    omega (arith, decimal-most 19 (a .n) h)
+
+slice-write-out-7 : tie.Need-slice-write-out-7
+slice-write-out-7 c = let a = c .before .before .before .before .before .before .before .before .before .args in
+    let h : a .n < 10 ^ 20 = omega arith in
+    omega (arith, decimal-most 19 (a .n) h, c .before .before .put-digits .ensures .after)
+
+add-result-5 : tie.Need-add-result-5
+add-result-5 c = let a = c .before .before .before .before .before .before .before .before .before .args in
+    let h : a .n < 10 ^ 20 = omega arith in
+    omega (arith, decimal-most 19 (a .n) h, c .before .before .put-digits .ensures .after)
+
+same-length-5 : tie.Need-same-length-5
+same-length-5 c = search needs
+
+returns-5 : tie.Need-returns-5
+returns-5 c = let a = c .before .before .before .before .before .before .before .before .before .args in
+    let h : a .n < 10 ^ 20 = omega arith in
+    (then (c .before .before .put-digits .ensures) (one (c .before .before .put-digits .last .0) (c .before .before .put-digits .result) (a .end) refl), omega (arith, decimal-most 19 (a .n) h, c .before .before .put-digits .ensures .after))
+
+pub put-number-spec : {M : Type 1} → statement M
+put-number-spec =
+    tie.close
+    (tie.spec
+    cast-out
+    add-out
+    slice-write-out
+    add-out-2
+    slice-write-out-2
+    add-result
+    same-length
+    returns
+    put-two-requires
+    add-out-3
+    slice-write-out-3
+    add-result-2
+    same-length-2
+    returns-2
+    cast-out-2
+    add-out-4
+    slice-write-out-4
+    add-put-two
+    put-two-requires-2
+    add-out-5
+    slice-write-out-5
+    add-result-3
+    same-length-3
+    returns-3
+    put-two-requires-3
+    add-put-two-2
+    put-two-requires-4
+    add-out-6
+    slice-write-out-6
+    add-result-4
+    same-length-4
+    returns-4
+    put-digits-requires
+    slice-write-out-7
+    add-result-5
+    same-length-5
+    returns-5)

@@ -1,0 +1,5 @@
+pub mod Text
+pub mod Frame
+pub mod Hexadecimal
+pub mod Lines
+pub mod Stream

@@ -1,0 +1,64 @@
+-- The lines of a whole input, its text, and a reading of it piece by piece by calls of `put_line` and `keep`.
+-- Assumes nothing.
+use mathlib.Core.Path.{_≡_}
+use mathlib.Core.Bool.{Bool, true, false}
+use mathlib.Core.List.{List, [], _∷_, _++_}
+use Prim.Native.Nat.{ℕ, _+_, _-_}
+use lib.Dec.{eqb}
+use lib.ListN.{length, take, drop}
+use Rattle.types.specs.Choice.{if}
+use Rattle.types.specs.Refusal.{amount}
+use Rattle.dump.specs.Hexadecimal.{textOf}
+use Rattle.dump.specs.Lines.{put, none, refused, left, putFrom, keptOf}
+
+-- the lines that a newline ends, where some of the first stands before the bytes already
+abbrev pub wholeOn : List ℕ → List ℕ → List (List ℕ)
+wholeOn line [] = []
+wholeOn line (b ∷ bs) = if (eqb b 10) (line ∷ wholeOn [] bs) (wholeOn (line ++ (b ∷ [])) bs)
+
+-- and what stands behind the last newline
+abbrev pub restOn : List ℕ → List ℕ → List ℕ
+restOn line [] = line
+restOn line (b ∷ bs) = if (eqb b 10) (restOn [] bs) (restOn (line ++ (b ∷ [])) bs)
+
+-- which is a line too, if it is not empty
+abbrev pub lastOf : List ℕ → List (List ℕ)
+lastOf [] = []
+lastOf (b ∷ bs) = (b ∷ bs) ∷ []
+
+-- the lines of bytes, of which the last counts only where the input has ended
+abbrev pub linesBy : Bool → List ℕ → List (List ℕ)
+linesBy ended bytes = wholeOn [] bytes ++ if ended (lastOf (restOn [] bytes)) []
+
+-- the texts of lines that are numbered from there on
+abbrev pub texts : ℕ → List (List ℕ) → List ℕ
+texts number [] = []
+texts number (l ∷ ls) = textOf number l ++ texts (number + 1) ls
+
+-- the text of a whole input: its lines are numbered from 1
+unfoldable pub dump : List ℕ → List ℕ
+dump input = texts 1 (linesBy true input)
+
+-- calls of `put_line` over what was read, from a place on and with the number of the line there, until no line ends:
+-- the text that they put, the place that they come to, and the number of the line there.
+-- The buffer that the text is put into may be another one at each call; a call refused for want of room is made again.
+pub data Calls (xs : List ℕ) (ended : Bool) : ℕ → ℕ → List ℕ → ℕ → ℕ → Type 0 where
+  stop : {from number : ℕ} (out : List ℕ) (place : ℕ) → left none out ≡ putFrom ended number xs from out place
+      → Calls xs ended from number [] from number
+  room : {from number last count : ℕ} {text : List ℕ} (out : List ℕ) (place : ℕ) → left (refused 13 (amount 86016)) out ≡ putFrom ended number xs from out place
+      → Calls xs ended from number text last count → Calls xs ended from number text last count
+  next : {from number last count : ℕ} {text : List ℕ} (out out′ : List ℕ) (place to after : ℕ) → left (put to after) out′ ≡ putFrom ended number xs from out place
+      → Calls xs ended to (number + 1) text last count → Calls xs ended from number (take (after - place) (drop place out′) ++ text) last count
+
+-- a reading of pieces: behind what is kept comes a piece, the lines that end are put, and `keep` keeps what is left; at the end of the input the last line is put
+pub data Reading : List ℕ → ℕ → List (List ℕ) → List ℕ → Type 0 where
+  done : {kept text : List ℕ} {number last count : ℕ} → Calls kept true 0 number text last count
+      → Reading kept number [] text
+  read : {kept piece text more : List ℕ} {pieces : List (List ℕ)} {number last count : ℕ} → Calls (kept ++ piece) false 0 number text last count
+      → Reading (keptOf (kept ++ piece) last (length (kept ++ piece))) count pieces more
+      → Reading kept number (piece ∷ pieces) (text ++ more)
+
+-- all pieces
+abbrev pub joined : List (List ℕ) → List ℕ
+joined [] = []
+joined (p ∷ ps) = p ++ joined ps

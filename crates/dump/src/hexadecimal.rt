@@ -1,0 +1,68 @@
+// Hexadecimal digits, two for each byte of a frame.
+ghost use mathlib.Core.Path.{_≡_};
+ghost use Prim.Native.Nat.{_+_, _≤_, min};
+ghost use lib.ListN.{length, drop};
+ghost use lib.Seq.{sets};
+ghost use Rattle.dump.specs.Hexadecimal.{nibbleOf, leading};
+
+// The most bytes that a frame has.
+pub const MOST_BYTES: usize = 1476;
+
+// The value of a hexadecimal digit, of either case; 16 for any other byte.
+fn nibble(byte: u8) -> u8
+    ensures { λ r. ⌜ r ≡ nibbleOf byte ⌝ }
+    ensures { λ r. ⌜ r ≤ 16 ⌝ }
+{
+    if byte <= b'9' {
+        if byte < b'0' {
+            return 16;
+        }
+        return byte - b'0';
+    }
+    if byte < b'a' {
+        if byte < b'A' {
+            return 16;
+        }
+        if byte > b'F' {
+            return 16;
+        }
+        return byte - b'A' + 10;
+    }
+    if byte > b'f' {
+        return 16;
+    }
+    byte - b'a' + 10
+}
+
+// Puts the bytes that the digits from a place on stand for, up to the first that is no pair of digits, at the start of the frame, and answers how many there are.
+pub(crate) fn decode(buf: &[u8], from: usize, frame: &mut [u8; MOST_BYTES]) -> usize
+    requires { ⌜ from ≤ length (now buf) ⌝ }
+    ensures { λ r. ⌜ r ≡ length (leading (drop from (now (buf .entry)))) ⌝ }
+    ensures { λ r. ⌜ now (frame .exit) ≡ sets (now (frame .entry)) 0 (leading (drop from (now (buf .entry)))) ⌝ }
+    ensures { λ r. ⌜ (from + r + r ≤ length (now (buf .entry))) × (r ≤ 1476) ⌝ }
+{
+    let end = at_most(buf.len(), from + 2 * MOST_BYTES);
+    let mut count = 0;
+    let mut at = from;
+    while at + 1 < end {
+        let high = nibble(buf[at]);
+        if high > 15 {
+            return count;
+        }
+        let low = nibble(buf[at + 1]);
+        if low > 15 {
+            return count;
+        }
+        frame[count] = high * 16 + low;
+        count += 1;
+        at += 2;
+    }
+    count
+}
+
+// The lesser of two numbers.
+pub(crate) fn at_most(a: usize, b: usize) -> usize
+    ensures { λ r. ⌜ (r ≤ a) × (r ≤ b) × (r ≡ min a b) ⌝ }
+{
+    if a < b { a } else { b }
+}
