@@ -4,6 +4,9 @@ use crate::making::random::Random;
 use protocol::{Class, Tag, TagName};
 use reference::tags::tag_bytes;
 
+// The longest buffer drawn: a request's line has at most 140,000 characters.
+const LONGEST: usize = 69_000;
+
 pub fn draw(random: &mut Random) -> String {
     let mut buf = random_bytes_before(random);
     let place = buf.len();
@@ -14,6 +17,7 @@ pub fn draw(random: &mut Random) -> String {
     }
     let lists = if random.once_in(2000) { 100 + random.up_to(1500) } else { 1 };
     (0..lists).for_each(|_| list(4, random, &mut buf));
+    buf.truncate(LONGEST);
     if in_block {
         buf.push(number * 16 + 0x0F);
     }

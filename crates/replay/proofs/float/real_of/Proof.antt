@@ -1,0 +1,19 @@
+-- `real_of` is safe: the bits below the infinity's, the sign's taken off, are no NaN's.
+-- Assumes nothing.
+use lib.Ieee.{binary32}
+use Rattle.values.proofs.Patterns.{below-real}
+use borrow.Author.Needs.{needs}
+use Rattle.replay.proofs.float.real_of.Statement.{statement}
+use Rattle.replay.proofs.float.real_of.Tie as tie
+
+float-from-bits-result : tie.Need-float-from-bits-result
+float-from-bits-result c = rw (below-real binary32 (c .before .args .bits) (c .if1 .left)) tt
+
+returns : tie.Need-returns
+returns c = search needs
+
+returns-2 : tie.Need-returns-2
+returns-2 c = search needs
+
+pub real-of-spec : {M : Type 1} → statement M
+real-of-spec = tie.close (tie.spec float-from-bits-result returns returns-2)

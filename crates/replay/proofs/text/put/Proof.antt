@@ -1,0 +1,74 @@
+-- `put` is safe and ends: the bytes fit behind the place, and no store changes the text's length.
+-- Assumes nothing.
+use borrow.Author.Needs.{needs}
+use mathlib.Core.Path.{_≡_}
+use Prim.Native.Nat.{_+_, _-_, _≤_}
+use lib.ListN.{length, length-set}
+use native.Mathlib.Omega.{arith}
+use Rattle.replay.proofs.text.put.Statement.{statement}
+use Rattle.replay.proofs.text.put.Tie as tie
+
+abbrev Inv-loop : tie.InvT-loop
+Inv-loop bytes text₀ at done₀ text done = (done ≤ length bytes) × (at + length bytes ≤ length text) × (length text ≡ length text₀)
+
+abbrev μ-loop : tie.MeasureT-loop
+μ-loop bytes text₀ at done₀ text done = length bytes - done
+
+returns : tie.Need-returns Inv-loop μ-loop
+returns c = search needs
+
+sub-if2 : tie.Need-sub-if2 Inv-loop μ-loop
+sub-if2 c = search needs
+
+returns-2 : tie.Need-returns-2 Inv-loop μ-loop
+returns-2 c = search needs
+
+loop-holds : tie.Need-loop-holds Inv-loop μ-loop
+loop-holds c = search needs
+
+shared-slice-read-text : tie.Need-shared-slice-read-text Inv-loop μ-loop
+shared-slice-read-text c = search needs
+
+add-text : tie.Need-add-text Inv-loop μ-loop
+add-text c = search needs
+
+slice-write-text : tie.Need-slice-write-text Inv-loop μ-loop
+slice-write-text c = search needs
+
+add-done : tie.Need-add-done Inv-loop μ-loop
+add-done c = search needs
+
+loop-less : tie.Need-loop-less Inv-loop μ-loop
+loop-less c = search needs
+
+loop-again : tie.Need-loop-again Inv-loop μ-loop
+loop-again c = simp length-set (omega arith)
+
+add-result : tie.Need-add-result Inv-loop μ-loop
+add-result c = search needs
+
+same-length : tie.Need-same-length Inv-loop μ-loop
+same-length c = search needs
+
+returns-3 : tie.Need-returns-3 Inv-loop μ-loop
+returns-3 c = search needs
+
+pub put-spec : {M : Type 1} → statement M
+put-spec =
+    tie.close
+    (tie.spec
+    Inv-loop
+    μ-loop
+    returns
+    sub-if2
+    returns-2
+    loop-holds
+    shared-slice-read-text
+    add-text
+    slice-write-text
+    add-done
+    loop-less
+    loop-again
+    add-result
+    same-length
+    returns-3)
