@@ -19,6 +19,7 @@ pub use reading::read_four_bytes;
 pub use reading::read_slice;
 pub use reading::read_two_bytes;
 pub use writing::extend_from_slice;
+pub use writing::pattern;
 pub use writing::push;
 pub use writing::write_signed;
 pub use writing::write_unsigned;

@@ -85,7 +85,7 @@ pub fn write_signed(value: i64, buf: &mut [u8], place: usize) -> Written
 }
 
 // The unsigned integer that has the bits of a signed one.
-fn pattern(value: i64) -> u64
+pub fn pattern(value: i64) -> u64
     ensures { λ r. ⌜ r ≡ patternOf 8 value ⌝ }
 {
     if value < 0 {

@@ -6,6 +6,10 @@ mod text;
 mod value;
 mod writing;
 
+pub use float::double_bits;
+pub use float::double_of;
+pub use float::real_bits;
+pub use float::real_of;
 pub use reading::ValueRead;
 pub use reading::decode;
 pub use value::ApplicationDataValue;

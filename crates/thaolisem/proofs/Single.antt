@@ -1,0 +1,302 @@
+-- The eight numbers tell the answer: no two answers of a function are told by the same numbers. A value is one that the program can hold: integers of their widths, floats of their formats.
+-- Assumes nothing.
+use mathlib.Core.Path.{_≡_, refl, sym, ap, _∙_}
+use native.Mathlib.Omega.{arith}
+use Prim.Native.Nat.{ℕ, _+_, _-_, _*_, _^_, _<_, _≤_}
+use mathlib.Core.Bool.{Bool, true, false}
+use mathlib.Core.List.{List, [], _∷_}
+use borrow.Author.Tests.{lt-ltb, le-ltb}
+use lib.Dec.{eqb}
+use lib.ListN.{getD}
+use lib.IntN.{ℤ, pos, negsuc}
+use lib.Signed.{mag}
+use lib.Ieee.{Float, binary32, binary64, ofBits}
+use lib.Ieee.Bits.{ofBits-toBits}
+use Rattle.types.specs.Choice.{if}
+use Rattle.types.specs.Tag.{Number, application, context, opening, closing, Tag, tag, tagOf}
+use Rattle.types.specs.Refusal.{Carried, amount, tagFound, table}
+use Rattle.types.specs.Answer.{Answer, accepted, refused, refusal, Outcome, passed, stopped, paperOutcome}
+use Rattle.types.specs.Writing.{paperWritten}
+use Rattle.types.specs.declared.refusal.Refusal.{Refusal}
+use Rattle.types.specs.declared.refusal.Refusal.the-variants as r
+use Rattle.types.specs.declared.outcome.Outcome as program-outcome
+use Rattle.types.specs.declared.outcome.Outcome.the-variants as o
+use Rattle.types.specs.declared.written.Written.{Written}
+use Rattle.types.specs.declared.written.Written.the-variants as w
+use Rattle.types.proofs.Single.{single-written}
+use Rattle.numbers.specs.Integer.{patternOf, twosComplement}
+use Rattle.numbers.specs.Reading.{partAt, paperUnsigned, paperSigned}
+use Rattle.numbers.specs.declared.reading.UnsignedRead.{UnsignedRead}
+use Rattle.numbers.specs.declared.reading.UnsignedRead.the-variants as u
+use Rattle.numbers.specs.declared.integer.SignedRead.{SignedRead}
+use Rattle.numbers.specs.declared.integer.SignedRead.the-variants as i
+use Rattle.numbers.proofs.Single.{single-unsigned, single-signed}
+use Rattle.tags.specs.Reading.{paperTag}
+use Rattle.tags.specs.declared.reading.TagRead.{TagRead}
+use Rattle.tags.specs.declared.reading.TagRead.the-variants as t
+use Rattle.tags.proofs.Single.{single-tag-read}
+use Rattle.bodies.specs.Scan.{Body, body, Counted, counted, paperBody}
+use Rattle.bodies.specs.declared.body.BodyRead.{BodyRead}
+use Rattle.bodies.specs.declared.body.BodyRead.the-variants as b
+use Rattle.bodies.proofs.Single.{single-body}
+use Rattle.walk.specs.Walk.{Report, report, paperWalked}
+use Rattle.walk.specs.declared.walking.Walked.{Walked}
+use Rattle.walk.proofs.Single.{single-walked}
+use Rattle.utf8.specs.Check.{Verdict, good, badAt}
+use Rattle.utf8.specs.Answer.{paperCheck, single-answer}
+use Rattle.utf8.specs.declared.Checked.{Checked}
+use Rattle.values.specs.Value.{Value, boolean, real, double, onDate, atTime, objectId, characterString, octetString, enumerated, bitString, unsignedInt, signedInt, date, time, valueOf}
+use Rattle.values.specs.Reading.{paperRead}
+use Rattle.values.specs.declared.reading.ValueRead.{ValueRead}
+use Rattle.values.specs.declared.reading.ValueRead.the-variants as v
+use Rattle.values.proofs.Single.{single-read}
+use Rattle.values.proofs.Back.{Held}
+use Rattle.headers.specs.Header as headers
+use Rattle.headers.specs.Reading.{paperHeader}
+use Rattle.headers.specs.declared.header.Header.{Header}
+use Rattle.headers.specs.declared.header.Header.the-variants as h
+use Rattle.headers.specs.declared.reading.HeaderRead.{HeaderRead}
+use Rattle.headers.specs.declared.reading.HeaderRead.the-variants as hr
+use Rattle.headers.proofs.Single.{single-header-read}
+use Rattle.thaolisem.specs.Told.{classOf, numberIn, toldRefusal, toldTag, toldUnsigned, toldSigned, toldBody, toldWalk, valueTold, toldValue, headerTold, toldHeader, toldCheck, toldWrite}
+
+-- what can be told back from its numbers is told apart by them
+apart : {A B : Type 0} (told : A → B) (back : B → A) (x y : A) → back (told x) ≡ x → back (told y) ≡ y → told x ≡ told y → x ≡ y
+apart told back x y ex ey e = sym ex ∙ ap back e ∙ ey
+
+-- the i-th of the eight
+abbrev at : List ℕ → ℕ → ℕ
+at l k = getD l k 0
+
+abbrev number : ℕ → ℕ → Number
+number class k = if (eqb class 1) (application k) (if (eqb class 2) (context k) (if (eqb class 3) (opening k) (closing k)))
+
+number-again : (x : Number) → number (classOf x) (numberIn x) ≡ x
+number-again (application k) = refl
+number-again (context k) = refl
+number-again (opening k) = refl
+number-again (closing k) = refl
+
+abbrev carried : List ℕ → Carried
+carried l = if (eqb (at l 1) 0) (amount (at l 2)) (tagFound (tag (number (at l 1) (at l 2)) (at l 3)))
+
+-- an answer from its eight numbers, where an accepted one is known from them
+abbrev answer : {A : Type 0} → (List ℕ → Answer A) → List ℕ → Answer A
+answer given l = if (eqb (at l 0) 0) (given l) (refused (at l 0) (carried l))
+
+tag-found-again : (n tags v : ℕ) (x : Number) → carried (toldRefusal n (tagFound (tag x v)) tags) ≡ tagFound (tag x v)
+tag-found-again n tags v (application k) = refl
+tag-found-again n tags v (context k) = refl
+tag-found-again n tags v (opening k) = refl
+tag-found-again n tags v (closing k) = refl
+
+refusal-again : {A : Type 0} (given : List ℕ → Answer A) (x : Refusal) (tags : ℕ) → answer given (toldRefusal (table x .number) (table x .carries) tags) ≡ refusal x
+refusal-again given (r.BufferTooLong c) tags = refl
+refusal-again given (r.PlacePastEnd c) tags = refl
+refusal-again given (r.BytesRunOut c) tags = refl
+refusal-again given (r.OtherTagNumber c) tags = ap (refused 4) (tag-found-again 4 tags (c .value) (tagOf c .number))
+refusal-again given (r.OtherTagValue c) tags = ap (refused 5) (tag-found-again 5 tags (c .value) (tagOf c .number))
+refusal-again given (r.NoOpeningTag c) tags = ap (refused 6) (tag-found-again 6 tags (c .value) (tagOf c .number))
+refusal-again given (r.LengthNotAllowed c) tags = refl
+refusal-again given (r.NotAValueTag c) tags = ap (refused 8) (tag-found-again 8 tags (c .value) (tagOf c .number))
+refusal-again given (r.OtherCharacterSet c) tags = refl
+refusal-again given (r.TextNotUtf8 c) tags = refl
+refusal-again given (r.ServiceChoiceTooLarge c) tags = refl
+refusal-again given r.CannotBeWritten tags = refl
+refusal-again given (r.NoRoom c) tags = refl
+refusal-again given (r.AllowanceSpent c) tags = refl
+refusal-again given (r.ClosingWithoutOpening c) tags = refl
+refusal-again given (r.TooManyBlocksOpen c) tags = refl
+refusal-again given (r.OtherPduType c) tags = refl
+refusal-again given r.EnumeratedTooLarge tags = refl
+refusal-again given r.LineNotHexadecimal tags = refl
+
+abbrev tagFields : List ℕ → Answer Tag
+tagFields l = accepted (tag (number (at l 1) (at l 2)) (at l 3)) (at l 4)
+
+abbrev tagBack : List ℕ → Answer Tag
+tagBack = answer tagFields
+
+tag-again : (x : TagRead) → tagBack (toldTag (paperTag x)) ≡ paperTag x
+tag-again (t.Read a next) = ap (λ (k : Number). accepted (tag k (a .value)) next) (number-again (tagOf a .number))
+tag-again (t.Refused x) = refusal-again tagFields x 0
+
+pub single-told-tag : (x y : TagRead) → toldTag (paperTag x) ≡ toldTag (paperTag y) → x ≡ y
+single-told-tag x y e = single-tag-read x y (apart toldTag tagBack (paperTag x) (paperTag y) (tag-again x) (tag-again y) e)
+
+abbrev unsignedFields : List ℕ → Answer ℕ
+unsignedFields l = accepted (at l 1) (at l 2)
+
+abbrev unsignedBack : List ℕ → Answer ℕ
+unsignedBack = answer unsignedFields
+
+unsigned-again : (x : UnsignedRead) → unsignedBack (toldUnsigned (paperUnsigned x)) ≡ paperUnsigned x
+unsigned-again (u.Unsigned a next) = refl
+unsigned-again (u.Refused x) = refusal-again unsignedFields x 0
+
+pub single-told-unsigned : (x y : UnsignedRead) → toldUnsigned (paperUnsigned x) ≡ toldUnsigned (paperUnsigned y) → x ≡ y
+single-told-unsigned x y e = single-unsigned x y (apart toldUnsigned unsignedBack (paperUnsigned x) (paperUnsigned y) (unsigned-again x) (unsigned-again y) e)
+
+-- a signed integer of 64 bits is known from its two's complement
+pattern-again : (z : ℤ) → mag z < 2 ^ 63 → twosComplement 8 (patternOf 8 z) ≡ z
+pattern-again (pos k) h = let f : k * 2 < 256 ^ 8 = omega arith in simp (lt-ltb (k * 2) (256 ^ 8) f)
+pattern-again (negsuc k) h =
+    let n : ℕ = 256 ^ 8 - 1 - k in
+    let f : 256 ^ 8 ≤ n * 2 = omega arith in
+    let g : 256 ^ 8 - 1 - n ≡ k = omega arith in
+    simp (le-ltb (n * 2) (256 ^ 8) f) (ap negsuc g)
+
+abbrev signedFields : List ℕ → Answer ℤ
+signedFields l = accepted (twosComplement 8 (at l 1)) (at l 2)
+
+abbrev signedBack : List ℕ → Answer ℤ
+signedBack = answer signedFields
+
+-- an integer that 64 bits hold
+abbrev pub Held64 : SignedRead → Type 0
+Held64 (i.Signed z next) = mag z < 2 ^ 63
+Held64 (i.Refused x) = Unit {0}
+
+signed-again : (x : SignedRead) → Held64 x → signedBack (toldSigned (paperSigned x)) ≡ paperSigned x
+signed-again (i.Signed z next) h = ap (λ (k : ℤ). accepted k next) (pattern-again z h)
+signed-again (i.Refused x) h = refusal-again signedFields x 0
+
+pub single-told-signed : (x y : SignedRead) → Held64 x → Held64 y → toldSigned (paperSigned x) ≡ toldSigned (paperSigned y) → x ≡ y
+single-told-signed x y hx hy e = single-signed x y (apart toldSigned signedBack (paperSigned x) (paperSigned y) (signed-again x hx) (signed-again y hy) e)
+
+abbrev bodyFields : List ℕ → Answer Body
+bodyFields l = accepted (body (at l 1) (at l 2) (at l 3)) (at l 5)
+
+abbrev bodyBack : List ℕ → Counted
+bodyBack l = counted (answer bodyFields l) (at l 4)
+
+tags-again : (x : Refusal) (tags : ℕ) → at (toldRefusal (table x .number) (table x .carries) tags) 4 ≡ tags
+tags-again x tags = by-carried (table x .number) (table x .carries) tags where
+  by-carried : (n : ℕ) (c : Carried) (k : ℕ) → at (toldRefusal n c k) 4 ≡ k
+  by-carried n (amount a) k = refl
+  by-carried n (tagFound a) k = refl
+
+body-again : (x : BodyRead) → bodyBack (toldBody (paperBody x)) ≡ paperBody x
+body-again (b.Body start size n next tags) = refl
+body-again (b.Refused x tags) =
+    ap (λ (k : ℕ). counted (answer bodyFields (toldRefusal (table x .number) (table x .carries) tags)) k) (tags-again x tags)
+    ∙ ap (λ (a : Answer Body). counted a tags) (refusal-again bodyFields x tags)
+
+pub single-told-body : (x y : BodyRead) → toldBody (paperBody x) ≡ toldBody (paperBody y) → x ≡ y
+single-told-body x y e = single-body x y (apart toldBody bodyBack (paperBody x) (paperBody y) (body-again x) (body-again y) e)
+
+abbrev outcomeIn : Answer (Unit {0}) → Outcome
+outcomeIn (accepted a next) = passed
+outcomeIn (refused n c) = stopped n c
+
+abbrev noFields : List ℕ → Answer (Unit {0})
+noFields l = accepted tt 0
+
+abbrev walkBack : List ℕ → Report
+walkBack l = report (at l 4) (outcomeIn (answer noFields l))
+
+walk-again : (tags : ℕ) (x : program-outcome.Outcome) → walkBack (toldWalk (report tags (paperOutcome x))) ≡ report tags (paperOutcome x)
+walk-again tags o.Passed = refl
+walk-again tags (o.Refused x) =
+    ap (λ (k : ℕ). report k (outcomeIn (answer noFields (toldRefusal (table x .number) (table x .carries) tags)))) (tags-again x tags)
+    ∙ ap (λ (a : Answer (Unit {0})). report tags (outcomeIn a)) (refusal-again noFields x tags)
+
+pub single-told-walk : (x y : Walked) → toldWalk (paperWalked x) ≡ toldWalk (paperWalked y) → x ≡ y
+single-told-walk x y e = single-walked x y (apart toldWalk walkBack (paperWalked x) (paperWalked y) (walk-again (x .tags) (x .outcome)) (walk-again (y .tags) (y .outcome)) e)
+
+abbrev valueIn : List ℕ → Value
+valueIn l =
+    if (eqb (at l 1) 1) (boolean (eqb (at l 2) 1))
+    (if (eqb (at l 1) 2) (real (ofBits binary32 (at l 2)))
+    (if (eqb (at l 1) 3) (double (ofBits binary64 (at l 2)))
+    (if (eqb (at l 1) 4) (onDate (date (at l 2) (at l 3) (at l 4) (at l 5)))
+    (if (eqb (at l 1) 5) (atTime (time (at l 2) (at l 3) (at l 4) (at l 5)))
+    (if (eqb (at l 1) 6) (objectId (at l 2) (at l 3))
+    (if (eqb (at l 1) 7) (characterString (partAt (at l 2) (at l 3)))
+    (if (eqb (at l 1) 8) (octetString (partAt (at l 2) (at l 3)))
+    (if (eqb (at l 1) 9) (bitString (at l 2) (partAt (at l 3) (at l 4)))
+    (if (eqb (at l 1) 10) (enumerated (at l 2))
+    (if (eqb (at l 1) 11) (unsignedInt (at l 2))
+    (signedInt (twosComplement 8 (at l 2)))))))))))))
+
+abbrev valueFields : List ℕ → Answer Value
+valueFields l = accepted (valueIn l) (at l 6)
+
+abbrev valueBack : List ℕ → Answer Value
+valueBack = answer valueFields
+
+case-again : (x : Value) (next : ℕ) → Held x → valueBack (valueTold x next) ≡ accepted x next
+case-again (boolean true) next h = refl
+case-again (boolean false) next h = refl
+case-again (real x) next h = ap (λ (a : Float). accepted (real a) next) (ofBits-toBits binary32 x h)
+case-again (double x) next h = ap (λ (a : Float). accepted (double a) next) (ofBits-toBits binary64 x h)
+case-again (onDate d) next h = refl
+case-again (atTime a) next h = refl
+case-again (objectId n k) next h = refl
+case-again (characterString p) next h = refl
+case-again (octetString p) next h = refl
+case-again (enumerated x) next h = refl
+case-again (bitString k p) next h = refl
+case-again (unsignedInt x) next h = refl
+case-again (signedInt z) next h = ap (λ (a : ℤ). accepted (signedInt a) next) (pattern-again z h)
+
+-- a value that the program can hold
+abbrev pub HeldRead : ValueRead → Type 0
+HeldRead (v.Value x next) = Held (valueOf x)
+HeldRead (v.Refused x) = Unit {0}
+
+value-again : (x : ValueRead) → HeldRead x → valueBack (toldValue (paperRead x)) ≡ paperRead x
+value-again (v.Value x next) h = case-again (valueOf x) next h
+value-again (v.Refused x) h = refusal-again valueFields x 0
+
+pub single-told-value : (x y : ValueRead) → HeldRead x → HeldRead y → toldValue (paperRead x) ≡ toldValue (paperRead y) → x ≡ y
+single-told-value x y hx hy e = single-read x y (apart toldValue valueBack (paperRead x) (paperRead y) (value-again x hx) (value-again y hy) e)
+
+abbrev headerIn : List ℕ → headers.Header
+headerIn l =
+    if (eqb (at l 1) 0) (headers.header headers.request (headers.nibbles (at l 2) (at l 3) ∷ headers.number (at l 4) ∷ headers.choice (at l 5) ∷ []))
+    (if (eqb (at l 1) 2) (headers.header headers.simple (headers.number (at l 2) ∷ headers.choice (at l 3) ∷ []))
+    (if (eqb (at l 1) 3) (headers.header headers.complex (headers.number (at l 2) ∷ headers.choice (at l 3) ∷ []))
+    (headers.header headers.segment (headers.number (at l 2) ∷ headers.number (at l 3) ∷ headers.number (at l 4) ∷ []))))
+
+abbrev headerFields : List ℕ → Answer headers.Header
+headerFields l = accepted (headerIn l) (at l 6)
+
+abbrev headerBack : List ℕ → Answer headers.Header
+headerBack = answer headerFields
+
+kind-again : (x : Header) (next : ℕ) → headerBack (headerTold (headers.headerOf x) next) ≡ accepted (headers.headerOf x) next
+kind-again (h.ConfirmedRequest segments size id c) next = refl
+kind-again (h.SimpleAck id c) next = refl
+kind-again (h.ComplexAck id c) next = refl
+kind-again (h.SegmentAck id sequence window) next = refl
+
+header-again : (x : HeaderRead) → headerBack (toldHeader (paperHeader x)) ≡ paperHeader x
+header-again (hr.Read x next) = kind-again x next
+header-again (hr.Refused x) = refusal-again headerFields x 0
+
+pub single-told-header : (x y : HeaderRead) → toldHeader (paperHeader x) ≡ toldHeader (paperHeader y) → x ≡ y
+single-told-header x y e = single-header-read x y (apart toldHeader headerBack (paperHeader x) (paperHeader y) (header-again x) (header-again y) e)
+
+abbrev checkBack : List ℕ → Verdict
+checkBack l = if (eqb (at l 0) 0) good (badAt (at l 2))
+
+check-again : (x : Verdict) → checkBack (toldCheck x) ≡ x
+check-again good = refl
+check-again (badAt place) = refl
+
+pub single-told-check : (x y : Checked) → toldCheck (paperCheck x) ≡ toldCheck (paperCheck y) → x ≡ y
+single-told-check x y e = single-answer x y (apart toldCheck checkBack (paperCheck x) (paperCheck y) (check-again (paperCheck x)) (check-again (paperCheck y)) e)
+
+abbrev writeFields : List ℕ → Answer (Unit {0})
+writeFields l = accepted tt (at l 1)
+
+abbrev writeBack : List ℕ → Answer (Unit {0})
+writeBack = answer writeFields
+
+write-again : (x : Written) → writeBack (toldWrite (paperWritten x)) ≡ paperWritten x
+write-again (w.To next) = refl
+write-again (w.Refused x) = refusal-again writeFields x 0
+
+pub single-told-write : (x y : Written) → toldWrite (paperWritten x) ≡ toldWrite (paperWritten y) → x ≡ y
+single-told-write x y e = single-written x y (apart toldWrite writeBack (paperWritten x) (paperWritten y) (write-again x) (write-again y) e)

@@ -1,0 +1,48 @@
+-- `thaolisem::thaolisem_decode_tag` meets its contract: in each arm what was read is known.
+-- Assumes nothing.
+use borrow.Author.Needs.{needs}
+use mathlib.Core.Path.{sym, ap, _∙_}
+use Rattle.tags.specs.Reading.{paperTag}
+use Rattle.thaolisem.proofs.tag.thaolisem_decode_tag.Statement.{statement}
+use Rattle.thaolisem.proofs.tag.thaolisem_decode_tag.Tie as tie
+
+decode-requires : tie.Need-decode-requires
+decode-requires c κs = search needs
+
+enum-known-tag : tie.Need-enum-known-tag
+enum-known-tag c = search needs
+
+class-of-requires : tie.Need-class-of-requires
+class-of-requires c κs = search needs
+
+number-in-requires : tie.Need-number-in-requires
+number-in-requires c κs = search needs
+
+cast-t11 : tie.Need-cast-t11
+cast-t11 c = search needs
+
+enum-known-r : tie.Need-enum-known-r
+enum-known-r c = search needs
+
+refused-requires : tie.Need-refused-requires
+refused-requires c κs = search needs
+
+returns : tie.Need-returns
+returns c = simp (c .before .before .number-in .ensures, c .before .before .before .class-of .ensures, sym (c .before .before .before .before .before .before .before .decode .ensures) ∙ ap paperTag (c .before .before .before .before .before .tag .given .1))
+
+returns-2 : tie.Need-returns-2
+returns-2 c = simp (c .refused .ensures, sym (c .before .before .before .before .decode .ensures) ∙ ap paperTag (c .before .before .r .given .1))
+
+pub thaolisem-decode-tag-spec : {M : Type 1} → statement M
+thaolisem-decode-tag-spec =
+    tie.close
+    (tie.spec
+    decode-requires
+    enum-known-tag
+    class-of-requires
+    number-in-requires
+    cast-t11
+    enum-known-r
+    refused-requires
+    returns
+    returns-2)

@@ -1,0 +1,82 @@
+-- What the numbers of a writer name, and the write of what they name; where they name nothing, 12.
+-- Assumes nothing.
+use Prim.Native.Nat.{ℕ}
+use mathlib.Core.Bool.{Bool, true, false}
+use mathlib.Core.List.{List, [], _∷_}
+use mathlib.Core.Option.{Option, none, some}
+use lib.Dec.{ltb, eqb}
+use Rattle.types.specs.Choice.{if}
+use Rattle.types.specs.Tag.{Number, application, context, opening, closing, Tag, tag, numberOf}
+use Rattle.types.specs.Refusal.{amount}
+use Rattle.types.specs.Writing.{Left, Writable, cannot, writing}
+use Rattle.tags.specs.Writing.{tagTo}
+use Rattle.tags.specs.Item.{itemTo, booleanByte}
+use Rattle.headers.specs.Header.{Header, header, request, simple, complex, segment, nibbles, number, choice, headerOf}
+use Rattle.headers.specs.Writing.{headerTo}
+use Rattle.thaolisem.specs.declared.tag.NumberNamed as program-number
+use Rattle.thaolisem.specs.declared.tag.NumberNamed.the-variants as n
+use Rattle.thaolisem.specs.declared.header.HeaderNamed as program-header
+use Rattle.thaolisem.specs.declared.header.HeaderNamed.the-variants as h
+
+-- refused 12
+abbrev pub never : Writable
+never = cannot 12 (amount 0)
+
+-- the write of what is named; where nothing is, 12, after 01's tests of the buffer, the lent content and the place
+abbrev pub namedTo : {A : Type 0} → ℕ → Option A → (A → List ℕ → ℕ → Left) → List ℕ → ℕ → Left
+namedTo lent (some a) to xs place = to a xs place
+namedTo lent none to xs place = writing lent never [] xs place
+
+-- an application tag's number goes to 15
+abbrev pub applicationNamed : ℕ → Option Number
+applicationNamed k = if (ltb 15 k) none (some (application k))
+
+-- a tag's class, 1 application, 2 context, 3 opening, 4 closing, and its number
+unfoldable pub numberNamed : ℕ → ℕ → Option Number
+numberNamed class k =
+    if (eqb class 1) (applicationNamed k)
+    (if (eqb class 2) (some (context k))
+    (if (eqb class 3) (some (opening k))
+    (if (eqb class 4) (some (closing k))
+    none)))
+
+unfoldable pub tagNamedTo : ℕ → ℕ → ℕ → List ℕ → ℕ → Left
+tagNamedTo class k value xs place = namedTo 0 (numberNamed class k) (λ x. tagTo (tag x value)) xs place
+
+-- what an integer is written under: 1 the application tag of its kind, 2 a context tag
+unfoldable pub underNamed : ℕ → ℕ → ℕ → Option Number
+underNamed kind class k =
+    if (eqb class 1) (some (application kind))
+    (if (eqb class 2) (some (context k))
+    none)
+
+unfoldable pub integerNamedTo : ℕ → ℕ → ℕ → List ℕ → List ℕ → ℕ → Left
+integerNamedTo kind class k content xs place = namedTo 0 (underNamed kind class k) (λ x. itemTo x content) xs place
+
+-- a boolean: 0 or 1
+unfoldable pub booleanNamed : ℕ → Option Bool
+booleanNamed b = if (eqb b 0) (some false) (if (eqb b 1) (some true) none)
+
+unfoldable pub booleanNamedTo : ℕ → ℕ → List ℕ → ℕ → Left
+booleanNamedTo k b xs place = namedTo 0 (booleanNamed b) (λ x. itemTo (context k) (booleanByte x ∷ [])) xs place
+
+-- a header: its PDU type and its fields in their order; a field that it has not is not read
+unfoldable pub headerNamed : ℕ → ℕ → ℕ → ℕ → ℕ → Option Header
+headerNamed kind a b c d =
+    if (eqb kind 0) (some (header request (nibbles a b ∷ number c ∷ choice d ∷ [])))
+    (if (eqb kind 2) (some (header simple (number a ∷ choice b ∷ [])))
+    (if (eqb kind 3) (some (header complex (number a ∷ choice b ∷ [])))
+    (if (eqb kind 4) (some (header segment (number a ∷ number b ∷ number c ∷ [])))
+    none)))
+
+unfoldable pub headerNamedTo : ℕ → ℕ → ℕ → ℕ → ℕ → List ℕ → ℕ → Left
+headerNamedTo kind a b c d xs place = namedTo 0 (headerNamed kind a b c d) headerTo xs place
+
+-- the program's enums for what is named
+abbrev pub paperNumber : program-number.NumberNamed → Option Number
+paperNumber (n.Number x) = some (numberOf x)
+paperNumber n.Nothing = none
+
+abbrev pub paperHeaderNamed : program-header.HeaderNamed → Option Header
+paperHeaderNamed (h.Header x) = some (headerOf x)
+paperHeaderNamed h.Nothing = none

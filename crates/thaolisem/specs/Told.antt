@@ -1,0 +1,125 @@
+-- The eight numbers that tell an answer. The first is 0 where it is accepted, else the refusal's number in 01.
+-- Assumes nothing.
+use Prim.Native.Nat.{ℕ}
+use mathlib.Core.Bool.{Bool, true, false}
+use mathlib.Core.List.{List, [], _∷_}
+use lib.IntN.{ℤ}
+use lib.ListN.{getD}
+use lib.Ieee.{binary32, binary64, toBits}
+use Rattle.types.specs.Tag.{Number, application, context, opening, closing, Tag, tagOf}
+use Rattle.types.specs.Refusal.{Carried, amount, tagFound}
+use Rattle.types.specs.Answer.{Answer, accepted, refused, Outcome, passed, stopped}
+use Rattle.numbers.specs.Integer.{patternOf}
+use Rattle.tags.specs.Item.{booleanByte}
+use Rattle.bodies.specs.Scan.{Body, Counted}
+use Rattle.walk.specs.Walk.{Report}
+use Rattle.utf8.specs.Check.{Verdict, good, badAt}
+use Rattle.values.specs.Value as values
+use Rattle.headers.specs.Header as headers
+use Rattle.thaolisem.specs.declared.answer.Carried as program
+use Rattle.thaolisem.specs.declared.answer.Carried.the-variants as p
+
+-- eight numbers
+abbrev pub eight : ℕ → ℕ → ℕ → ℕ → ℕ → ℕ → ℕ → ℕ → List ℕ
+eight a b c d e f g h = a ∷ b ∷ c ∷ d ∷ e ∷ f ∷ g ∷ h ∷ []
+
+-- the number of a tag's class
+abbrev pub classOf : Number → ℕ
+classOf (application n) = 1
+classOf (context n) = 2
+classOf (opening n) = 3
+classOf (closing n) = 4
+
+-- the number that stands in a tag
+abbrev pub numberIn : Number → ℕ
+numberIn (application n) = n
+numberIn (context n) = n
+numberIn (opening n) = n
+numberIn (closing n) = n
+
+-- a refusal: its number; what it carries, as 0 and an amount, or as the class, number and value of the tag found; and the count of tags, where there is one
+abbrev pub toldRefusal : ℕ → Carried → ℕ → List ℕ
+toldRefusal n (amount a) tags = eight n 0 a 0 tags 0 0 0
+toldRefusal n (tagFound t) tags = eight n (classOf (t .number)) (numberIn (t .number)) (t .value) tags 0 0 0
+
+-- a tag: class, number, value, next place
+abbrev pub toldTag : Answer Tag → List ℕ
+toldTag (accepted t next) = eight 0 (classOf (t .number)) (numberIn (t .number)) (t .value) next 0 0 0
+toldTag (refused n c) = toldRefusal n c 0
+
+-- an unsigned integer: value, next place
+abbrev pub toldUnsigned : Answer ℕ → List ℕ
+toldUnsigned (accepted v next) = eight 0 v next 0 0 0 0 0
+toldUnsigned (refused n c) = toldRefusal n c 0
+
+-- a signed integer: its two's complement in 64 bits, next place
+abbrev pub toldSigned : Answer ℤ → List ℕ
+toldSigned (accepted z next) = eight 0 (patternOf 8 z) next 0 0 0 0 0
+toldSigned (refused n c) = toldRefusal n c 0
+
+-- a body: where its view starts, the view's length, the body's number, the count of tags, next place
+abbrev pub bodyTold : Answer Body → ℕ → List ℕ
+bodyTold (accepted b next) tags = eight 0 (b .start) (b .size) (b .number) tags next 0 0
+bodyTold (refused n c) tags = toldRefusal n c tags
+
+abbrev pub toldBody : Counted → List ℕ
+toldBody x = bodyTold (x .answer) (x .tags)
+
+-- a walk: the count of tags
+abbrev pub walkTold : Outcome → ℕ → List ℕ
+walkTold passed tags = eight 0 0 0 0 tags 0 0 0
+walkTold (stopped n c) tags = toldRefusal n c tags
+
+abbrev pub toldWalk : Report → List ℕ
+toldWalk x = walkTold (x .outcome) (x .tags)
+
+-- a value: its case, the fields of the case, and in the seventh number the next place; a float and a signed integer by their bits
+abbrev pub valueTold : values.Value → ℕ → List ℕ
+valueTold (values.boolean b) next = eight 0 1 (booleanByte b) 0 0 0 next 0
+valueTold (values.real x) next = eight 0 2 (toBits binary32 x) 0 0 0 next 0
+valueTold (values.double x) next = eight 0 3 (toBits binary64 x) 0 0 0 next 0
+valueTold (values.onDate d) next = eight 0 4 (d .year) (d .month) (d .day) (d .weekday) next 0
+valueTold (values.atTime t) next = eight 0 5 (t .hour) (t .minute) (t .second) (t .hundredths) next 0
+valueTold (values.objectId n i) next = eight 0 6 n i 0 0 next 0
+valueTold (values.characterString p) next = eight 0 7 (p .start) (p .size) 0 0 next 0
+valueTold (values.octetString p) next = eight 0 8 (p .start) (p .size) 0 0 next 0
+valueTold (values.bitString u p) next = eight 0 9 u (p .start) (p .size) 0 next 0
+valueTold (values.enumerated x) next = eight 0 10 x 0 0 0 next 0
+valueTold (values.unsignedInt x) next = eight 0 11 x 0 0 0 next 0
+valueTold (values.signedInt z) next = eight 0 12 (patternOf 8 z) 0 0 0 next 0
+
+abbrev pub toldValue : Answer values.Value → List ℕ
+toldValue (accepted v next) = valueTold v next
+toldValue (refused n c) = toldRefusal n c 0
+
+-- the numbers of a header's fields, in their order
+abbrev pub fieldNumbers : List headers.Value → List ℕ
+fieldNumbers [] = []
+fieldNumbers (headers.nibbles a b ∷ vs) = a ∷ b ∷ fieldNumbers vs
+fieldNumbers (headers.number n ∷ vs) = n ∷ fieldNumbers vs
+fieldNumbers (headers.choice c ∷ vs) = c ∷ fieldNumbers vs
+
+-- a header: its PDU type, its fields in their order, with 0 for those that it has not, and in the seventh number the next place
+abbrev pub headerTold : headers.Header → ℕ → List ℕ
+headerTold h next =
+    eight 0 (headers.rowOf (h .kind) .pduType) (getD (fieldNumbers (h .fields)) 0 0) (getD (fieldNumbers (h .fields)) 1 0)
+    (getD (fieldNumbers (h .fields)) 2 0) (getD (fieldNumbers (h .fields)) 3 0) next 0
+
+abbrev pub toldHeader : Answer headers.Header → List ℕ
+toldHeader (accepted h next) = headerTold h next
+toldHeader (refused n c) = toldRefusal n c 0
+
+-- a check of text: 10 with the first bad place where it is not UTF-8
+abbrev pub toldCheck : Verdict → List ℕ
+toldCheck good = eight 0 0 0 0 0 0 0 0
+toldCheck (badAt place) = toldRefusal 10 (amount place) 0
+
+-- a write: next place
+abbrev pub toldWrite : Answer (Unit {0}) → List ℕ
+toldWrite (accepted u next) = eight 0 next 0 0 0 0 0 0
+toldWrite (refused n c) = toldRefusal n c 0
+
+-- the program's enum for what a refusal carries
+abbrev pub carriedOf : program.Carried → Carried
+carriedOf (p.Amount n) = amount n
+carriedOf (p.TagFound t) = tagFound (tagOf t)

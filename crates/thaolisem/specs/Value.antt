@@ -1,0 +1,61 @@
+-- The value that a case and its fields name; a field that the case has not is not read, and one too large for its type names nothing.
+-- Assumes nothing.
+use Prim.Native.Nat.{ℕ}
+use mathlib.Core.List.{List}
+use mathlib.Core.Option.{Option, none, some}
+use lib.Dec.{ltb, eqb}
+use lib.ListN.{length}
+use lib.Ieee.{binary32, binary64, ofBits}
+use Rattle.types.specs.Choice.{if}
+use Rattle.types.specs.Writing.{Left}
+use Rattle.numbers.specs.Integer.{twosComplement}
+use Rattle.numbers.specs.Reading.{partAt}
+use Rattle.values.specs.Value.{Value, boolean, real, double, onDate, atTime, objectId, characterString, octetString, enumerated, bitString, unsignedInt, signedInt, date, time, valueOf}
+use Rattle.values.specs.Writing.{valueTo}
+use Rattle.thaolisem.specs.Named.{namedTo}
+use Rattle.thaolisem.specs.declared.named.ValueNamed as program
+use Rattle.thaolisem.specs.declared.named.ValueNamed.the-variants as v
+
+-- what is named where a number is at most so large
+abbrev pub upTo : ℕ → ℕ → Option Value → Option Value
+upTo most x named = if (ltb most x) none named
+
+unfoldable pub dateNamed : ℕ → ℕ → ℕ → ℕ → Option Value
+dateNamed y m d w = upTo 65535 y (upTo 255 m (upTo 255 d (upTo 255 w (some (onDate (date y m d w))))))
+
+unfoldable pub timeNamed : ℕ → ℕ → ℕ → ℕ → Option Value
+timeNamed h m s c = upTo 255 h (upTo 255 m (upTo 255 s (upTo 255 c (some (atTime (time h m s c))))))
+
+unfoldable pub objectIdNamed : ℕ → ℕ → Option Value
+objectIdNamed k i = upTo 65535 k (upTo 4294967295 i (some (objectId k i)))
+
+-- text, octets and bits have their content from the lent slice, and bits their unused count besides; a signed integer is named by its two's complement in 64 bits
+unfoldable pub contentNamed : ℕ → ℕ → Option Value
+contentNamed case a =
+    if (eqb case 7) (some (characterString (partAt 0 0)))
+    (if (eqb case 8) (some (octetString (partAt 0 0)))
+    (if (eqb case 9) (upTo 255 a (some (bitString a (partAt 0 0))))
+    (if (eqb case 10) (upTo 4294967295 a (some (enumerated a)))
+    (if (eqb case 11) (some (unsignedInt a))
+    (if (eqb case 12) (some (signedInt (twosComplement 8 a)))
+    none)))))
+
+-- a float is named by its bits
+unfoldable pub valueNamed : ℕ → ℕ → ℕ → ℕ → ℕ → Option Value
+valueNamed case a b c d =
+    if (eqb case 1) (upTo 1 a (some (boolean (eqb a 1))))
+    (if (eqb case 2) (upTo 4294967295 a (some (real (ofBits binary32 a))))
+    (if (eqb case 3) (some (double (ofBits binary64 a)))
+    (if (eqb case 4) (dateNamed a b c d)
+    (if (eqb case 5) (timeNamed a b c d)
+    (if (eqb case 6) (objectIdNamed a b)
+    (contentNamed case a))))))
+
+-- what writing it at a place of a buffer answers and leaves
+unfoldable pub valueNamedTo : ℕ → ℕ → ℕ → ℕ → ℕ → List ℕ → List ℕ → ℕ → Left
+valueNamedTo case a b c d lent xs place = namedTo (length lent) (valueNamed case a b c d) (λ v. valueTo v lent) xs place
+
+-- the program's enum for it
+abbrev pub paperNamed : program.ValueNamed → Option Value
+paperNamed (v.Value x) = some (valueOf x)
+paperNamed v.Nothing = none

@@ -1,0 +1,129 @@
+// The headers of confirmed services, read and written.
+ghost use mathlib.Core.Path.{_≡_};
+ghost use mathlib.Core.List.{[], _∷_};
+ghost use Rattle.headers.specs.Reading.{headerFrom};
+ghost use Rattle.headers.specs.Header.{headerOf};
+ghost use Rattle.thaolisem.specs.Told.{toldHeader, headerTold, toldWrite};
+ghost use Rattle.thaolisem.specs.Named.{paperHeaderNamed, headerNamed, headerNamedTo};
+use crate::answer::nothing_named;
+use crate::answer::refused;
+use crate::answer::written;
+use headers::Header;
+use headers::HeaderRead;
+
+// A header, or that numbers name none.
+enum HeaderNamed {
+    Header(Header),
+    Nothing,
+}
+
+// Tells the header at a place.
+#[no_mangle]
+pub extern "C" fn thaolisem_decode_header(buf: &[u8], place: usize, answer: &mut [u64; 8])
+    ensures { λ _. ⌜ now (answer .exit) ≡ toldHeader (headerFrom (now (buf .entry)) place) ⌝ }
+{
+    match headers::decode(buf, place) {
+        HeaderRead::Read(header, next) => {
+            *answer = told(header, next);
+        }
+        HeaderRead::Refused(r) => {
+            *answer = refused(r, 0);
+        }
+    }
+}
+
+// A header by its PDU type and its fields in their order, with the place after it.
+fn told(header: Header, next: usize) -> [u64; 8]
+    ensures { λ r. ⌜ r ≡ headerTold (headerOf header) next ⌝ }
+{
+    match header {
+        Header::ConfirmedRequest {
+            max_segments,
+            max_adpu,
+            invoke_id,
+            service_choice,
+        } => eight(0, max_segments, max_adpu, invoke_id, service_choice, next),
+        Header::SimpleAck {
+            invoke_id,
+            service_choice,
+        } => eight(2, invoke_id, service_choice, 0, 0, next),
+        Header::ComplexAck {
+            invoke_id,
+            service_choice,
+        } => eight(3, invoke_id, service_choice, 0, 0, next),
+        Header::SegmentAck {
+            invoke_id,
+            sequence_num,
+            proposed_window_size,
+        } => eight(4, invoke_id, sequence_num, proposed_window_size, 0, next),
+    }
+}
+
+// A type, four fields and the place after them.
+fn eight(kind: u64, a: u8, b: u8, c: u8, d: u8, next: usize) -> [u64; 8]
+    ensures { λ r. ⌜ r ≡ 0 ∷ kind ∷ a ∷ b ∷ c ∷ d ∷ next ∷ 0 ∷ [] ⌝ }
+{
+    [
+        0,
+        kind,
+        a as u64,
+        b as u64,
+        c as u64,
+        d as u64,
+        next as u64,
+        0,
+    ]
+}
+
+// Writes the header of a PDU type and its fields in their order; a field that the type has not is not read.
+#[no_mangle]
+pub extern "C" fn thaolisem_encode_header(
+    kind: u8,
+    a: u8,
+    b: u8,
+    c: u8,
+    d: u8,
+    buf: &mut [u8],
+    place: usize,
+    answer: &mut [u64; 8],
+)
+    ensures { λ _. ⌜ now (answer .exit) ≡ toldWrite (headerNamedTo kind a b c d (now (buf .entry)) place .answer) ⌝ }
+    ensures { λ _. ⌜ now (buf .exit) ≡ headerNamedTo kind a b c d (now (buf .entry)) place .buffer ⌝ }
+{
+    match header_named(kind, a, b, c, d) {
+        HeaderNamed::Header(header) => {
+            *answer = written(headers::encode(header, buf, place));
+        }
+        HeaderNamed::Nothing => {
+            *answer = written(nothing_named(0, buf, place));
+        }
+    }
+}
+
+// The header that a PDU type and its fields name.
+fn header_named(kind: u8, a: u8, b: u8, c: u8, d: u8) -> HeaderNamed
+    ensures { λ r. ⌜ paperHeaderNamed r ≡ headerNamed kind a b c d ⌝ }
+{
+    match kind {
+        0 => HeaderNamed::Header(Header::ConfirmedRequest {
+            max_segments: a,
+            max_adpu: b,
+            invoke_id: c,
+            service_choice: d,
+        }),
+        2 => HeaderNamed::Header(Header::SimpleAck {
+            invoke_id: a,
+            service_choice: b,
+        }),
+        3 => HeaderNamed::Header(Header::ComplexAck {
+            invoke_id: a,
+            service_choice: b,
+        }),
+        4 => HeaderNamed::Header(Header::SegmentAck {
+            invoke_id: a,
+            sequence_num: b,
+            proposed_window_size: c,
+        }),
+        _ => HeaderNamed::Nothing,
+    }
+}
