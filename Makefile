@@ -1,15 +1,33 @@
-# make test: the whole gate. Any failing step ends it; its last line is the toolchain's 'N passed, M failed' (check-slips says nothing where all is well).
-.PHONY: test kit oracle
+# make run: apdu-dump on the samples. make test: the whole gate; any failing step ends it, and its last line is the toolchain's 'N passed, M failed' (check-slips says nothing where all is well).
+.PHONY: run test oracle lib apdu_dump replay kit
+
+run: apdu_dump
+	@bin/apdu-dump < samples/frames.txt
 
 test: kit
 	@rt fmt --check
 	@tools/check-promises
+	@$(MAKE) --no-print-directory apdu_dump
+	@tests/apdu-dump
+	@$(MAKE) --no-print-directory oracle
 	@rt ci
 	@tools/check-slips
 
+# The port against the given Rust, 200,000 requests with a fixed seed.
+oracle: replay
+	@oracle/compare 1 200000
+
+# The static library and its C header, in one folder.
+lib: kit
+	@mkdir -p target/lib
+	@rt staticlib thaolisem > target/lib.log 2>&1 || { tail -n 40 target/lib.log; exit 1; }
+	@cp target/staticlib/libthaolisem.a bindings/c/thaolisem.h target/lib/
+	@echo "target/lib: libthaolisem.a thaolisem.h"
+
+# A program, proved and built; what has not changed since is not proved again.
+apdu_dump replay: kit
+	@mkdir -p target
+	@rt check $@ > target/$@.log 2>&1 || { tail -n 40 target/$@.log; exit 1; }
+
 kit:
 	@command -v rt >/dev/null || { echo "Thaolisem needs the Rattle kit: its command 'rt' is not on the PATH"; exit 1; }
-
-# The port against the given Rust, 200,000 requests with a fixed seed.
-oracle:
-	@oracle/compare 1 200000
