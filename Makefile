@@ -1,5 +1,5 @@
 # make run: apdu-dump on the samples. make test: the whole gate; any failing step ends it, and its last line is the toolchain's 'N passed, M failed' (check-slips says nothing where all is well).
-.PHONY: run test oracle lib apdu_dump replay kit
+.PHONY: run test oracle lib programs apdu_dump replay kit
 
 run: apdu_dump
 	@bin/apdu-dump < samples/frames.txt
@@ -7,7 +7,7 @@ run: apdu_dump
 test: kit
 	@rt fmt --check
 	@tools/check-promises
-	@$(MAKE) --no-print-directory apdu_dump
+	@$(MAKE) --no-print-directory programs
 	@tests/apdu-dump
 	@$(MAKE) --no-print-directory oracle
 	@rt ci
@@ -24,10 +24,12 @@ lib: kit
 	@cp target/staticlib/libthaolisem.a bindings/c/thaolisem.h target/lib/
 	@echo "target/lib: libthaolisem.a thaolisem.h"
 
-# A program, proved and built; what has not changed since is not proved again.
-apdu_dump replay: kit
+# Programs, proved and built; what has not changed since is not proved again.
+programs: BUILT = apdu_dump replay
+apdu_dump replay: BUILT = $@
+programs apdu_dump replay: kit
 	@mkdir -p target
-	@rt check $@ > target/$@.log 2>&1 || { tail -n 40 target/$@.log; exit 1; }
+	@rt check $(BUILT) > target/$@.log 2>&1 || { tail -n 40 target/$@.log; exit 1; }
 
 kit:
 	@command -v rt >/dev/null || { echo "Thaolisem needs the Rattle kit: its command 'rt' is not on the PATH"; exit 1; }
