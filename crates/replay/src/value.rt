@@ -2,10 +2,6 @@
 ghost use Prim.Native.Nat.{_≤_};
 ghost use lib.ListN.{length};
 use crate::answer::Answer;
-use crate::float::double_bits;
-use crate::float::double_of;
-use crate::float::real_bits;
-use crate::float::real_of;
 use crate::words::NOWHERE;
 use crate::words::NumberFound;
 use crate::words::bytes;
@@ -20,6 +16,10 @@ use values::ApplicationDataValue;
 use values::Date;
 use values::ObjectId;
 use values::Time;
+use values::double_bits;
+use values::double_of;
+use values::real_bits;
+use values::real_of;
 
 // A value, how many bytes of content were lent for it, and where its words end.
 pub(crate) struct ValueAsked {
