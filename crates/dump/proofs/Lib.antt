@@ -1,6 +1,7 @@
 pub mod Decimal
 pub mod Puts
 pub mod TagLines
+pub mod Walking
 pub mod Digits
 pub mod Decoding
 pub mod Ends

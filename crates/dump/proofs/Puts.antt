@@ -1,6 +1,6 @@
 -- Texts put one behind the other are one text.
 -- Assumes nothing.
-use mathlib.Core.Path.{_≡_, refl, _∙_, sym}
+use mathlib.Core.Path.{_≡_, refl, _∙_, sym, ap}
 use mathlib.Core.List.{List, [], _∷_, _++_, append-assoc}
 use Prim.Native.Nat.{ℕ, suc, _+_, _<_}
 use native.Mathlib.Numerals.{add-one}
@@ -35,9 +35,30 @@ one xs at b e = record { buffer = refl; after = e }
 pub two : (xs : List ℕ) (at a b : ℕ) → Wrote xs at (a ∷ b ∷ []) (set (set xs at a) (at + 1) b) (at + 2)
 two xs at a b = record { buffer = rw add-one refl; after = refl }
 
--- a text of which the first part was put, and the rest of it still to come
-pub go-on : {xs ys a : List ℕ} {at p : ℕ} (b : List ℕ) → Wrote xs at a ys p → sets xs at (a ++ b) ≡ sets ys p b
-go-on {xs} {ys} {a} {at} {p} b w = rw (w .buffer, w .after) (sym (sets-append a b xs at))
+-- of a text that is to be put into xs at a place, the rest is still to come, at p in ys
+pub record Coming (xs : List ℕ) (at : ℕ) (text ys : List ℕ) (p : ℕ) (rest : List ℕ) : Type 0 where
+  pub stored : sets xs at text ≡ sets ys p rest
+  pub counted : at + length text ≡ p + length rest
+
+-- at first all of it
+pub all-coming : {xs : List ℕ} {at : ℕ} {text rest : List ℕ} → text ≡ rest → Coming xs at text xs at rest
+all-coming {xs} {at} e = record { stored = ap (sets xs at) e; counted = ap (λ (t : List ℕ). at + length t) e }
+
+-- a part more was put
+pub go-on : {xs text ys a b rest zs : List ℕ} {at p q : ℕ} → Coming xs at text ys p rest → rest ≡ a ++ b → Wrote ys p a zs q → Coming xs at text zs q b
+go-on {xs} {text} {ys} {a} {b} {rest} {zs} {at} {p} {q} c e w =
+    record {
+      stored = c .stored ∙ rw (e, w .buffer, w .after) (sym (sets-append a b ys p));
+      counted = omega (arith, c .counted, ap length e, length-append a b, w .after);
+    }
+
+-- the last part was put
+pub come : {xs text ys a rest zs : List ℕ} {at p q : ℕ} → Coming xs at text ys p rest → rest ≡ a → Wrote ys p a zs q → Wrote xs at text zs q
+come {ys = ys} {p = p} c e w =
+    record {
+      buffer = w .buffer ∙ sym (c .stored ∙ ap (sets ys p) e);
+      after = w .after ∙ sym (c .counted ∙ ap (λ (t : List ℕ). p + length t) e);
+    }
 
 line-more : (w : List ℕ) (ws : List (List ℕ)) → 0 < length ws → (w ++ (32 ∷ [])) ++ line ws ≡ line (w ∷ ws)
 line-more w [] h = absurd (omega arith)

@@ -1,5 +1,6 @@
 pub mod Text
 pub mod Frame
+pub mod Open
 pub mod Hexadecimal
 pub mod Lines
 pub mod Stream

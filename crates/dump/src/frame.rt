@@ -1,22 +1,25 @@
 // The text of a frame: its header's line, the lines of its tags, and the outcome.
 ghost use mathlib.Core.Path.{_≡_};
-ghost use Prim.Native.Nat.{_+_, _*_, _≤_, _<_};
+ghost use Prim.Native.Nat.{_+_, _≤_, _<_};
 ghost use lib.ListN.{length};
+ghost use lib.Dec.{eqb};
+ghost use Rattle.types.specs.Choice.{if};
+ghost use Rattle.types.specs.Tag.{tagOf};
 ghost use Rattle.types.specs.Refusal.{table};
-ghost use Rattle.types.specs.Answer.{paperOutcome};
 ghost use Rattle.headers.specs.Header.{headerOf};
 ghost use Rattle.walk.specs.Walk.{walkFrom};
-ghost use Rattle.walk.specs.Listing.{listed};
 ghost use Rattle.dump.specs.Text.{Wrote};
-ghost use Rattle.dump.specs.Frame.{walks, okLine, refusedLine, outcomeLine, tagLines, walkText, frameText};
+ghost use Rattle.dump.specs.Frame.{walks, okLine, refusedLine, walkText, frameText};
+ghost use Rattle.dump.specs.Open.{fitsBy, openAfter};
 use crate::header_line::put_header;
 use crate::tag_line::put_tag;
 use crate::text::put_number;
 use crate::text::put_word;
 use headers::Header;
 use headers::HeaderRead;
-use types::Outcome;
 use types::Refusal;
+use types::Tag;
+use types::TagNumber;
 use walk::TagAt;
 
 // Puts the text of a frame.
@@ -65,66 +68,70 @@ fn has_tags(header: Header) -> bool
     }
 }
 
-// Puts the lines of the tags that the walk from a place accepts, and its outcome.
-fn put_walk(out: &mut [u8], at: usize, number: u64, frame: &[u8], place: usize) -> usize
-    requires { ⌜ (at + 84736 ≤ length (now out)) × (length (now frame) ≤ 1476) ⌝ }
-    ensures { λ r. ⌜ Wrote (now (out .entry)) at (walkText number (walkFrom (now (frame .entry)) place)) (now (out .exit)) r ⌝ }
+// Puts the lines of the tags that the walk from a place accepts, each as it is accepted, and the walk's outcome.
+fn put_walk(out: &mut [u8], at: usize, number: u64, frame: &[u8], start: usize) -> usize
+    requires { ⌜ (at + 84736 ≤ length (now out)) × (length (now frame) ≤ 1476) × (start ≤ length (now frame)) ⌝ }
+    ensures { λ r. ⌜ Wrote (now (out .entry)) at (walkText number (walkFrom (now (frame .entry)) start)) (now (out .exit)) r ⌝ }
     ensures { λ r. ⌜ r ≤ at + 84736 ⌝ }
 {
-    let walked = walk::walk(frame, place);
-    let next = put_tags(out, at, number, frame, place, walked.tags);
-    let outcome = walked.outcome;
-    put_outcome(out, next, number, walked.tags, outcome)
-}
-
-// Puts the lines of so many tags from a place on.
-fn put_tags(
-    out: &mut [u8],
-    at: usize,
-    number: u64,
-    frame: &[u8],
-    start: usize,
-    count: usize,
-) -> usize
-    requires { ⌜ (at + 57 * count + 96 ≤ length (now out)) × (length (now frame) ≤ 1476) ⌝ }
-    ensures { λ r. ⌜ Wrote (now (out .entry)) at (tagLines number (listed count (now (frame .entry)) start 0)) (now (out .exit)) r ⌝ }
-    ensures { λ r. ⌜ r ≤ at + 57 * count ⌝ }
-{
+    let mut numbers = [0u8; 17];
     let mut next = at;
     let mut place = start;
     let mut blocks = 0;
-    let mut left = count;
-    while left > 0 {
-        left -= 1;
+    let mut tags = 0;
+    while place < frame.len() {
         match walk::tag_at(frame, place, blocks) {
             TagAt::Accepted {
                 tag,
                 depth,
                 next: after,
-                blocks: open,
+                blocks: then,
             } => {
+                if !fits(&mut numbers, depth, tag) {
+                    return put_refused(out, next, number, Refusal::ClosingWithoutOpening(place));
+                }
                 next = put_tag(out, next, number, place, depth, tag);
                 place = after;
-                blocks = open;
+                blocks = then;
+                tags += 1;
                 continue;
             }
-            TagAt::Refused(_) => {
-                return next;
+            TagAt::Refused(refusal) => {
+                return put_refused(out, next, number, refusal);
             }
         }
     }
-    next
+    put_end(out, next, number, frame.len(), blocks, tags)
 }
 
-// Puts how a walk ended, with the number of tags accepted.
-fn put_outcome(out: &mut [u8], at: usize, number: u64, tags: usize, outcome: Outcome) -> usize
+// Whether a tag fits the open blocks: a closing tag has the number of the block at its depth, and an opening tag gives that block its number.
+fn fits(numbers: &mut [u8; 17], depth: usize, tag: Tag) -> bool
+    requires { ⌜ depth < 17 ⌝ }
+    ensures { λ r. ⌜ r ≡ fitsBy (tagOf tag .number) depth (now (numbers .entry)) ⌝ }
+    ensures { λ r. ⌜ now (numbers .exit) ≡ openAfter (tagOf tag .number) depth (now (numbers .entry)) ⌝ }
+{
+    let number = tag.number;
+    match number {
+        TagNumber::Application(_) => true,
+        TagNumber::ContextSpecific(_) => true,
+        TagNumber::ContextSpecificOpening(n) => {
+            numbers[depth] = n;
+            true
+        }
+        TagNumber::ContextSpecificClosing(n) => n == numbers[depth],
+    }
+}
+
+// Puts how a walk ends that has come to the frame's end, with so many blocks open and so many tags accepted.
+fn put_end(out: &mut [u8], at: usize, number: u64, end: usize, blocks: usize, tags: usize) -> usize
     requires { ⌜ at + 50 ≤ length (now out) ⌝ }
-    ensures { λ r. ⌜ Wrote (now (out .entry)) at (outcomeLine number tags (paperOutcome outcome)) (now (out .exit)) r ⌝ }
+    ensures { λ r. ⌜ Wrote (now (out .entry)) at (if (eqb blocks 0) (okLine number tags) (refusedLine number 3)) (now (out .exit)) r ⌝ }
     ensures { λ r. ⌜ r ≤ at + 50 ⌝ }
 {
-    match outcome {
-        Outcome::Passed => put_ok(out, at, number, tags),
-        Outcome::Refused(refusal) => put_refused(out, at, number, refusal),
+    if blocks == 0 {
+        put_ok(out, at, number, tags)
+    } else {
+        put_refused(out, at, number, Refusal::BytesRunOut(end))
     }
 }
 

@@ -76,7 +76,7 @@ module _ (xs : List ℕ) (place blocks k : ℕ) (h : place < length xs) {r : Tag
       item-context e = let w = tag-inside in record { goes = λ ns z. on-step xs place ns k (class e ns z .0); inside = (w .0, w .1, omega arith) }
 
     pub item-closing : {y : ℕ} → t .number ≡ n.ContextSpecificClosing y → ItemSays xs place blocks k (i.Closing y next)
-    item-closing {y} e = record { goes = λ ns z. on-step xs place ns k (class e ns z) ∙ closing-step xs place ns y (tagOf t) next k; inside = tag-inside }
+    item-closing {y} e = record { goes = λ ns z. on-step xs place ns k (class e ns z .0) ∙ closing-step xs place ns y (tagOf t) next k; inside = tag-inside }
 
     module _ {y : ℕ} (e : t .number ≡ n.ContextSpecificOpening y) where
       into : {b : ListWalked} → ListSays xs next inside (k + 1) b → (ns : List ℕ) → length ns ≡ blocks → on xs place ns k ≡ afterList xs (y ∷ ns) b

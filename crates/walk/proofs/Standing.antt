@@ -18,12 +18,12 @@ use Rattle.walk.specs.Walk.{seen, Step, ends, goes, closingStep, stepBy,
 use Rattle.walk.proofs.Found.{item-moves-on}
 use Rattle.walk.proofs.Unfolds.{inside-step}
 
--- the step where the tag is accepted, by its class
+-- the step where the tag is accepted, by its class; an opening's depth is that of the block it opens, a closing's that of the block it closes
 abbrev pub Goes : ℕ → List ℕ → Number → Standing → ℕ → Step → Type 0
 Goes place ns (application n) s next st = (st ≡ goes (seen place (s .depth) (s .tag)) next ns) × (s .blocks ≡ length ns)
 Goes place ns (context n) s next st = (st ≡ goes (seen place (s .depth) (s .tag)) next ns) × (s .blocks ≡ length ns)
-Goes place ns (opening n) s next st = (st ≡ goes (seen place (s .depth) (s .tag)) next (n ∷ ns)) × (s .blocks ≡ suc (length ns))
-Goes place ns (closing n) s next st = st ≡ closingStep place ns n (s .tag) next
+Goes place ns (opening n) s next st = (st ≡ goes (seen place (s .depth) (s .tag)) next (n ∷ ns)) × (s .blocks ≡ suc (length ns)) × (s .depth ≡ length ns)
+Goes place ns (closing n) s next st = (st ≡ closingStep place ns n (s .tag) next) × (length ns ≡ suc (s .blocks)) × (s .depth ≡ s .blocks)
 
 abbrev pub Agree : ℕ → List ℕ → Answer Standing → Step → Type 0
 Agree place ns (accepted s next) st = Goes place ns (s .tag .number) s next st
@@ -34,7 +34,7 @@ closing-agrees place [] n v next = refl
 closing-agrees place (m ∷ ns) n v next =
     either (λ a. Agree place (m ∷ ns) a (closingStep place (m ∷ ns) n (tag (closing n) v) next)) (eqb (suc (length ns)) 0)
     (λ e. let z : suc (length ns) ≡ 0 = eqb-true (suc (length ns)) 0 e in absurd (omega arith))
-    (λ e. refl)
+    (λ e. (refl, omega arith, refl))
 
 by-agrees : (place : ℕ) (ns : List ℕ) (k : Number) (v next : ℕ) → Agree place ns (standsBy place (length ns) k (tag k v) next) (stepBy place ns k (tag k v) next)
 by-agrees place ns (application n) v next = (refl, refl)
@@ -42,7 +42,7 @@ by-agrees place ns (context n) v next = (refl, refl)
 by-agrees place ns (opening n) v next = by (ltb (length ns) 16)
   where
     by : (b : Bool) → Agree place ns (if b (accepted (standing (tag (opening n) v) (length ns) (length ns + 1)) next) (refused 16 (amount place))) (if b (goes (seen place (length ns) (tag (opening n) v)) next (n ∷ ns)) (ends (stopped 16 (amount place))))
-    by true = (refl, omega arith)
+    by true = (refl, omega arith, refl)
     by false = refl
 by-agrees place ns (closing n) v next = closing-agrees place ns n v next
 

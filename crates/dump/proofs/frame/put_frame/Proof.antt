@@ -4,6 +4,7 @@ use Rattle.dump.proofs.Puts.{then}
 use Rattle.dump.specs.Frame.{frameText}
 use Rattle.headers.specs.Reading.{headerFrom, paperHeader}
 use Rattle.headers.specs.Header.{headerOf}
+use Rattle.headers.proofs.Exactly.{moves-on}
 use Rattle.types.specs.Answer.{accepted, refusal}
 use native.Mathlib.Omega.{arith}
 use mathlib.Core.Path.{_≡_, sym, ap, _∙_}
@@ -24,7 +25,9 @@ has-tags-requires : tie.Need-has-tags-requires
 has-tags-requires c κs = search needs
 
 put-walk-requires : tie.Need-put-walk-requires
-put-walk-requires c κs = search needs
+put-walk-requires c κs = let g = c .before .before .before .before .before .before .before .before .header .given in
+    let m = moves-on (c .before .before .before .before .before .before .before .before .before .before .before .before .before .args .frame .now) 0 (headerOf (g .0 .0)) (g .0 .1 .0) (sym (c .before .before .before .before .before .before .before .before .before .before .decode .ensures) ∙ ap paperHeader (g .1)) in
+    (omega (arith, c .before .before .before .before .before .put-header .ensures .1), omega arith, m .1)
 
 put-ok-requires : tie.Need-put-ok-requires
 put-ok-requires c κs = search needs
