@@ -1,6 +1,7 @@
 pub mod Turns
 pub mod Balance
 pub mod Steps
+pub mod Plain
 pub mod Scanned
 pub mod Places
 pub mod Ways

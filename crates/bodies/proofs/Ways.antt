@@ -1,15 +1,17 @@
 -- The ways in which asking for a body goes: an opening is found and the scan answers, another tag is found, or no tag is read.
 -- Assumes nothing.
-use Prim.Native.Nat.{ℕ}
-use mathlib.Core.Path.{_≡_, refl, ap, _∙_}
+use Prim.Native.Nat.{ℕ, _≤_}
+use mathlib.Core.Path.{_≡_, refl, ap, _∙_, subst}
 use mathlib.Core.Bool.{Bool, true, false}
 use mathlib.Core.List.{List}
 use native.Mathlib.Omega.{arith}
 use borrow.Author.Tests.{eqb-true, eqb-false}
+use lib.ListN.{length}
 use Rattle.types.specs.Choice.{if}
 use Rattle.types.specs.Tag.{Number, application, context, opening, closing, Tag, tag}
 use Rattle.types.specs.Refusal.{Carried, tagFound}
 use Rattle.types.specs.Answer.{Answer, accepted, refused, then}
+use Rattle.types.proofs.Choices.{either, read-on}
 use Rattle.tags.specs.Reading.{tagFrom, expectedFrom, sameNumber}
 use Rattle.tags.proofs.Exactly.{tag-found, block-has-no-value}
 use Rattle.bodies.specs.Scan.{Counted, unread, scanned, bodyBy, bodyOf, bodyFrom, bodyForOf, bodyForFrom}
@@ -19,6 +21,17 @@ valueless : (xs : List ℕ) (place n v next : ℕ) → tagFrom xs place ≡ acce
 valueless xs place n v next e =
     let z : v ≡ 0 = block-has-no-value (tag-found xs place (tag (opening n) v) next e .is-tag) in
     cc
+
+-- a buffer in which a tag of the number expected was read is not too long
+abbrev SmallIf : List ℕ → Answer Tag → Type 0
+SmallIf xs (accepted t next) = length xs ≤ 65535
+SmallIf xs (refused r c) = Unit {0}
+
+pub small-expected : (expected : Number) (xs : List ℕ) (place : ℕ) (t : Tag) (next : ℕ) → expectedFrom expected xs place ≡ accepted t next → length xs ≤ 65535
+unfolding expectedFrom
+small-expected expected xs place t next e =
+    subst (SmallIf xs) e
+    (read-on (SmallIf xs) (tagFrom xs place) (λ u q g. either (SmallIf xs) (sameNumber (u .number) expected) (λ f. tag-found xs place u q g .small) (λ f. tt)) (λ r c g. tt))
 
 -- what holds in each of the three ways holds of what `get_tagged_body` answers
 module _ (P : Counted → Type 0) (allowance : ℕ) (xs : List ℕ) (place : ℕ)

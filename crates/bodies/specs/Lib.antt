@@ -1,4 +1,5 @@
 pub mod Item
+pub mod Plain
 pub mod Body
 pub mod Scan
 pub mod View

@@ -1,8 +1,9 @@
 // An item: a tag and its content.
 ghost use mathlib.Core.Path.{_≡_};
-ghost use Prim.Native.Nat.{_^_, _<_};
+ghost use Prim.Native.Nat.{_^_, _<_, _≤_};
 ghost use Rattle.types.specs.Tag.{tagOf};
 ghost use Rattle.bodies.specs.Item.{contentLength};
+ghost use Rattle.bodies.specs.Plain.{plainLength};
 use types::Tag;
 use types::TagNumber;
 
@@ -23,4 +24,22 @@ pub fn content_length(tag: Tag) -> usize
         TagNumber::ContextSpecificOpening(_) => 0,
         TagNumber::ContextSpecificClosing(_) => 0,
     }
+}
+
+// The number of bytes of the plain item that begins with a byte, where that byte is its whole tag; else 0.
+pub(crate) fn plain_length(first: u8) -> usize
+    ensures { λ r. ⌜ r ≡ plainLength first ⌝ }
+    ensures { λ r. ⌜ r ≤ 5 ⌝ }
+{
+    let low = first % 8;
+    if 4 < low {
+        return 0;
+    }
+    if 247 < first {
+        return 0;
+    }
+    if first / 8 == 2 {
+        return 1;
+    }
+    low as usize + 1
 }

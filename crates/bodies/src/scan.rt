@@ -1,10 +1,12 @@
 // The scan for the closing tag of a body.
 ghost use mathlib.Core.Path.{_≡_};
-ghost use Prim.Native.Nat.{_+_, _<_, _^_};
+ghost use Prim.Native.Nat.{_+_, _<_, _≤_, _^_};
+ghost use lib.ListN.{length};
 ghost use Rattle.types.specs.Tag.{tagOf};
 ghost use Rattle.bodies.specs.Scan.{paperStep, stepAfter, stepFrom, paperBody, scanFrom};
 use crate::body::BodyRead;
 use crate::item::content_length;
+use crate::item::plain_length;
 use tags::TagRead;
 use types::Refusal;
 use types::Tag;
@@ -52,11 +54,18 @@ fn step_after(number: u8, depth: usize, tag: Tag, next: usize) -> Step
 
 // What the tag at a place, which may be past the end, means for the scan.
 fn step_at(number: u8, depth: usize, buf: &[u8], place: usize) -> Step
-    requires { ⌜ depth + 1 < 2 ^ 64 ⌝ }
+    requires { ⌜ (depth + 1 < 2 ^ 64) × (length (now buf) ≤ 65535) ⌝ }
     ensures { λ r. ⌜ paperStep r ≡ stepFrom number depth (now (buf .entry)) place ⌝ }
 {
-    if buf.len() < place {
+    if buf.len() <= place {
         return Step::Refused(Refusal::BytesRunOut(buf.len()));
+    }
+    let plain = plain_length(buf[place]);
+    if 0 < plain {
+        return Step::Onward {
+            depth,
+            place: place + plain,
+        };
     }
     match tags::decode(buf, place) {
         TagRead::Read(tag, next) => step_after(number, depth, tag, next),
@@ -66,6 +75,7 @@ fn step_at(number: u8, depth: usize, buf: &[u8], place: usize) -> Step
 
 // The body of that number whose first item is at a start.
 pub(crate) fn scan(number: u8, allowance: usize, buf: &[u8], start: usize) -> BodyRead
+    requires { ⌜ length (now buf) ≤ 65535 ⌝ }
     ensures { λ r. ⌜ paperBody r ≡ scanFrom allowance number start 0 0 (now (buf .entry)) start ⌝ }
 {
     let mut place = start;

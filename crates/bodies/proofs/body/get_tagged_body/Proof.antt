@@ -3,6 +3,7 @@
 use borrow.Author.Needs.{needs}
 use mathlib.Core.Path.{sym, ap, _∙_}
 use Rattle.tags.specs.Reading.{paperTag}
+use Rattle.tags.proofs.Exactly.{tag-found}
 use Rattle.bodies.specs.Scan.{bodyFrom}
 use Rattle.bodies.proofs.body.get_tagged_body.Statement.{statement}
 use Rattle.bodies.proofs.body.get_tagged_body.Tie as tie
@@ -17,7 +18,7 @@ enum-known-found : tie.Need-enum-known-found
 enum-known-found c = search needs
 
 scan-requires : tie.Need-scan-requires
-scan-requires c κs = search needs
+scan-requires c κs = let a = c .before .before .before .before .before .before .before .before .args in tag-found (a .buf .now) (a .place) _ _ (sym (c .before .before .before .before .before .before .decode .ensures) ∙ ap paperTag (c .before .before .before .before .tag .given .1)) .small
 
 enum-told : tie.Need-enum-told
 enum-told c = search needs

@@ -2,7 +2,9 @@
 -- Assumes nothing.
 use borrow.Author.Needs.{needs}
 use mathlib.Core.Path.{sym, ap, _∙_}
+use Rattle.types.specs.Tag.{opening}
 use Rattle.tags.specs.Reading.{paperTag}
+use Rattle.bodies.proofs.Ways.{small-expected}
 use Rattle.bodies.specs.Scan.{bodyForFrom}
 use Rattle.bodies.proofs.body.get_tagged_body_for_tag.Statement.{statement}
 use Rattle.bodies.proofs.body.get_tagged_body_for_tag.Tie as tie
@@ -14,7 +16,7 @@ enum-known-next : tie.Need-enum-known-next
 enum-known-next c = search needs
 
 scan-requires : tie.Need-scan-requires
-scan-requires c κs = search needs
+scan-requires c κs = let a = c .before .before .before .before .before .args in small-expected (opening (a .expected)) (a .buf .now) (a .place) _ _ (sym (c .before .before .before .decode-expected .ensures) ∙ ap paperTag (c .before .next .given .1))
 
 enum-known-refusal : tie.Need-enum-known-refusal
 enum-known-refusal c = search needs

@@ -1,23 +1,40 @@
--- `bodies::step_at` meets its contract: the test and the answer of `decode` say which case of `stepFrom` holds, and a tag that was read ends inside the buffer.
+-- `bodies::step_at` meets its contract: at the end there is no tag, a plain item of one byte is passed by that byte, and else the answer of `decode` says which case of `stepFrom` holds.
 -- Assumes nothing.
 use borrow.Author.Needs.{needs}
 use native.Mathlib.Omega.{arith}
-use mathlib.Core.Path.{sym, ap, _∙_}
-use Prim.Native.Nat.{_≤_}
+use mathlib.Core.Path.{_≡_, sym, ap, _∙_}
+use Prim.Native.Nat.{_≤_, _<_}
 use lib.ListN.{length}
-use borrow.Author.Tests.{lt-ltb, le-ltb}
+use borrow.Author.Tests.{le-ltb}
 use Rattle.tags.specs.Reading.{paperTag}
 use Rattle.tags.proofs.Exactly.{moves-on}
-use Rattle.bodies.specs.Scan.{stepFrom}
+use Rattle.bodies.specs.Plain.{plainLength}
+use Rattle.bodies.specs.Scan.{onward, stepFrom}
+use Rattle.bodies.proofs.Plain.{plain-step, end-step}
 use Rattle.bodies.proofs.scan.step_at.Statement.{statement}
 use Rattle.bodies.proofs.scan.step_at.Tie as tie
 
-ends : (c : tie.After-tag) → c .tag .given .0 .1 .0 ≤ length (c .before .before .before .before .before .args .buf .now)
-ends c = let a = c .before .before .before .before .before .args in moves-on (a .buf .now) (a .place) _ _ (sym (c .before .before .decode .ensures) ∙ ap paperTag (c .tag .given .1)) .2
+ends : (c : tie.After-tag) → c .tag .given .0 .1 .0 ≤ length (c .before .before .before .before .before .before .before .before .args .buf .now)
+ends c = let a = c .before .before .before .before .before .before .before .before .args in moves-on (a .buf .now) (a .place) _ _ (sym (c .before .before .decode .ensures) ∙ ap paperTag (c .tag .given .1)) .2
 
 returns : tie.Need-returns
-unfolding stepFrom
-returns c = simp (lt-ltb _ _ (c .if1 .taken))
+returns c = let a = c .before .before .args in sym (end-step (a .number) (a .depth) (a .buf .now) (a .place) (omega arith) (c .if1 .taken))
+
+shared-slice-read-plain-length : tie.Need-shared-slice-read-plain-length
+shared-slice-read-plain-length c = search needs
+
+plain-length-requires : tie.Need-plain-length-requires
+plain-length-requires c κs = search needs
+
+add-t15 : tie.Need-add-t15
+add-t15 c = omega (arith, c .before .plain-length .ensures .1)
+
+returns-2 : tie.Need-returns-2
+returns-2 c =
+    let a = c .before .before .before .before .before .args in
+    let e = c .before .plain-length .ensures .0 in
+    let h = c .if2 .taken in
+    rw e (sym (plain-step (a .number) (a .depth) (a .buf .now) (a .place) (omega arith) (omega arith) (rw e at h)))
 
 decode-requires : tie.Need-decode-requires
 decode-requires c κs = search needs
@@ -26,18 +43,18 @@ enum-known-tag : tie.Need-enum-known-tag
 enum-known-tag c = search needs
 
 step-after-requires : tie.Need-step-after-requires
-step-after-requires c κs = omega (arith, ends (c .before), c .before .before .before .before .before .before .good, c .before .before .before .before .before .before .pre)
+step-after-requires c κs = omega (arith, ends (c .before), c .before .before .before .before .before .before .before .before .before .good, c .before .before .before .before .before .before .before .before .before .pre)
 
 enum-known-r : tie.Need-enum-known-r
 enum-known-r c = search needs
 
-returns-2 : tie.Need-returns-2
-unfolding stepFrom
-returns-2 c = simp (le-ltb _ _ (c .before .before .before .before .before .if1 .left), sym (c .before .before .before .before .decode .ensures) ∙ ap paperTag (c .before .before .tag .given .1)) (c .step-after .ensures)
-
 returns-3 : tie.Need-returns-3
 unfolding stepFrom
-returns-3 c = simp (le-ltb _ _ (c .before .before .before .before .if1 .left), sym (c .before .before .before .decode .ensures) ∙ ap paperTag (c .before .r .given .1))
+returns-3 c = simp (le-ltb _ _ (let h = c .before .before .before .before .before .before .before .before .if1 .left in let z : c .before .before .before .before .before .before .before .before .before .before .args .place ≤ length (c .before .before .before .before .before .before .before .before .before .before .args .buf .now) = omega arith in z), sym (c .before .before .before .before .decode .ensures) ∙ ap paperTag (c .before .before .tag .given .1)) (c .step-after .ensures)
+
+returns-4 : tie.Need-returns-4
+unfolding stepFrom
+returns-4 c = simp (le-ltb _ _ (let h = c .before .before .before .before .before .before .before .if1 .left in let z : c .before .before .before .before .before .before .before .before .before .args .place ≤ length (c .before .before .before .before .before .before .before .before .before .args .buf .now) = omega arith in z), sym (c .before .before .before .decode .ensures) ∙ ap paperTag (c .before .r .given .1))
 
 pub step-at-spec : {M : Type 1} → statement M
-step-at-spec = tie.close (tie.spec returns decode-requires enum-known-tag step-after-requires enum-known-r returns-2 returns-3)
+step-at-spec = tie.close (tie.spec returns shared-slice-read-plain-length plain-length-requires add-t15 returns-2 decode-requires enum-known-tag step-after-requires enum-known-r returns-3 returns-4)
