@@ -1,5 +1,5 @@
 -- The theorems: the check is good exactly on text and else names the one bad place (Exactly), its sequences are the grammar's characters (Characters), and no text
--- has two readings (Reading). The other files lead up to them, or to the code (FirstByte, Following).
+-- has two readings (Reading). The other files lead up to them, or to the code (FirstByte, Following, Runs).
 pub mod Ranges
 pub mod Rows
 pub mod Characters
@@ -9,3 +9,4 @@ pub mod Exactly
 pub mod Reading
 mod FirstByte
 mod Following
+mod Runs

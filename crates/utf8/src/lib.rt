@@ -4,6 +4,7 @@ ghost use Rattle.utf8.specs.Check.{checkOf};
 ghost use Rattle.utf8.specs.Answer.{paperCheck};
 
 mod lead;
+mod plain;
 
 use lead::Lead;
 
@@ -20,7 +21,12 @@ pub fn check(text: &[u8]) -> Checked
 {
     let mut place = 0;
     'sequences: while place < text.len() {
-        let Lead::Follow(count, first_low, first_high) = lead::lead_of(text[place]) else {
+        let first = text[place];
+        if first < 0x80 {
+            place = plain::after_plain(text, place + 1);
+            continue 'sequences;
+        }
+        let Lead::Follow(count, first_low, first_high) = lead::lead_of(first) else {
             break 'sequences;
         };
         let mut left = count;

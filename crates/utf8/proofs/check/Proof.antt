@@ -14,15 +14,16 @@ use Rattle.utf8.specs.Answer.{paperCheck}
 use Rattle.utf8.specs.Lead.{tailsOf, ranges, asTails}
 use Rattle.utf8.proofs.Places.{checkAt, end-good, none-bad, sequence-leads}
 use Rattle.utf8.proofs.Following.{stray-begins-none, wrong-begins-none, right-begins, nothing-left, ended-wrong, byte-passed, low-wrong, high-wrong}
+use Rattle.utf8.proofs.Runs.{one-passed, further, run-passed}
 use Rattle.utf8.proofs.check.Statement.{statement}
 use Rattle.utf8.proofs.check.Tie as tie
 
 abbrev Inv-loop : tie.InvT-loop
-Inv-loop text place count first-low first-high left₀ low₀ high₀ next₀ left low high next =
+Inv-loop text place first count first-low first-high left₀ low₀ high₀ next₀ left low high next =
     (place < next) × (next ≤ length text) × (next + left ≡ place + 1 + count) × (begins (ranges count first-low first-high) (drop (place + 1) text) ≡ begins (ranges left low high) (drop next text))
 
 abbrev μ-loop : tie.MeasureT-loop
-μ-loop text place count first-low first-high left₀ low₀ high₀ next₀ left low high next = left
+μ-loop text place first count first-low first-high left₀ low₀ high₀ next₀ left low high next = left
 
 abbrev Inv-sequences : tie.InvT-sequences
 Inv-sequences text place₀ place = (place ≤ length text) × (checkOf text ≡ checkAt text place)
@@ -34,8 +35,24 @@ sequences-holds : tie.Need-sequences-holds Inv-loop μ-loop Inv-sequences μ-seq
 unfolding checkAt checkOf
 sequences-holds c = (omega arith, refl)
 
-shared-slice-read-lead-of : tie.Need-shared-slice-read-lead-of Inv-loop μ-loop Inv-sequences μ-sequences
-shared-slice-read-lead-of c = search needs
+shared-slice-read-first : tie.Need-shared-slice-read-first Inv-loop μ-loop Inv-sequences μ-sequences
+shared-slice-read-first c = search needs
+
+add-after-plain : tie.Need-add-after-plain Inv-loop μ-loop Inv-sequences μ-sequences
+add-after-plain c = search needs
+
+after-plain-requires : tie.Need-after-plain-requires Inv-loop μ-loop Inv-sequences μ-sequences
+after-plain-requires c κs = search needs
+
+sequences-less : tie.Need-sequences-less Inv-loop μ-loop Inv-sequences μ-sequences
+sequences-less c = omega (arith, c .after-plain .ensures .ahead, c .after-plain .ensures .inside)
+
+sequences-again : tie.Need-sequences-again Inv-loop μ-loop Inv-sequences μ-sequences
+sequences-again c =
+    let l = c .before .before .before .before .sequences in
+    let text = c .before .before .before .before .before .before .args .text .now in
+    let one = one-passed text (l .place) (omega arith) (omega (arith, c .before .if1 .taken)) in
+    (c .after-plain .ensures .inside, l .inv .1 ∙ run-passed (further one (c .after-plain .ensures)))
 
 lead-of-requires : tie.Need-lead-of-requires Inv-loop μ-loop Inv-sequences μ-sequences
 lead-of-requires c κs = search needs
@@ -66,23 +83,23 @@ loop-less c = search needs
 
 loop-again : tie.Need-loop-again Inv-loop μ-loop Inv-sequences μ-sequences
 loop-again c =
-    let text = c .before .before .before .before .before .before .before .before .before .before .before .before .before .before .args .text .now in
+    let text = c .before .before .before .before .before .before .before .before .before .before .before .before .before .before .before .args .text .now in
     let i = c .before .before .before .before .before .loop in (
       omega arith,
       omega arith,
       omega arith,
-      i .inv .3 ∙ byte-passed text (i .next) (i .left) (i .low) (i .high) (omega arith) (c .before .before .before .if1 .left) (c .before .if2 .left) (c .if3 .left),
+      i .inv .3 ∙ byte-passed text (i .next) (i .left) (i .low) (i .high) (omega arith) (c .before .before .before .if2 .left) (c .before .if3 .left) (c .if4 .left),
     )
 
-sequences-less : tie.Need-sequences-less Inv-loop μ-loop Inv-sequences μ-sequences
-sequences-less c = search needs
+sequences-less-2 : tie.Need-sequences-less-2 Inv-loop μ-loop Inv-sequences μ-sequences
+sequences-less-2 c = search needs
 
-sequences-again : tie.Need-sequences-again Inv-loop μ-loop Inv-sequences μ-sequences
-sequences-again c =
-    let head = c .before .before .before .before .before .before .before .before in
+sequences-again-2 : tie.Need-sequences-again-2 Inv-loop μ-loop Inv-sequences μ-sequences
+sequences-again-2 c =
+    let head = c .before .before .before .before .before .before .before .before .before in
     let text = head .before .before .args .text .now in
     let place = head .sequences .place in
-    let inside = c .before .before .before .before .before .before .before .sequences-test .taken in
+    let inside = c .before .before .before .before .before .before .before .before .sequences-test .taken in
     let v = c .before .before .before .count .given .0 in
     let i = c .before .loop in
     let all : begins (ranges (v .0) (v .1 .0) (v .1 .1 .0)) (drop (place + 1) text) ≡ true = i .inv .3 ∙ nothing-left text (i .left) (i .low) (i .high) (i .next) (omega arith) in
@@ -99,24 +116,24 @@ none-begins c h =
     ⊎-elim
     (λ w. absurd (omega arith))
     (⊎-elim
-    (λ w. stray-begins-none text place h (rw (w .4 .given .1) at (w .2 .ensures)))
+    (λ w. stray-begins-none text place h (rw (w .5 .given .1) at (w .3 .ensures)))
     (⊎-elim
     (λ w.
-    let v = w .4 .given .0 in
-    let i = w .6 in
-    wrong-begins-none text place h (v .0) (v .1 .0) (v .1 .1 .0) (rw (w .4 .given .1) at (w .2 .ensures))
-    (i .inv .3 ∙ ended-wrong text (i .next) (i .left) (i .low) (i .high) (w .7 .taken) (w .8 .taken)))
+    let v = w .5 .given .0 in
+    let i = w .7 in
+    wrong-begins-none text place h (v .0) (v .1 .0) (v .1 .1 .0) (rw (w .5 .given .1) at (w .3 .ensures))
+    (i .inv .3 ∙ ended-wrong text (i .next) (i .left) (i .low) (i .high) (w .8 .taken) (w .9 .taken)))
     (⊎-elim
     (λ w.
-    let v = w .4 .given .0 in
-    let i = w .6 in
-    wrong-begins-none text place h (v .0) (v .1 .0) (v .1 .1 .0) (rw (w .4 .given .1) at (w .2 .ensures))
-    (i .inv .3 ∙ low-wrong text (i .next) (i .left) (i .low) (i .high) (w .7 .taken) (w .8 .left) (w .10 .taken)))
+    let v = w .5 .given .0 in
+    let i = w .7 in
+    wrong-begins-none text place h (v .0) (v .1 .0) (v .1 .1 .0) (rw (w .5 .given .1) at (w .3 .ensures))
+    (i .inv .3 ∙ low-wrong text (i .next) (i .left) (i .low) (i .high) (w .8 .taken) (w .9 .left) (w .11 .taken)))
     (λ w.
-    let v = w .4 .given .0 in
-    let i = w .6 in
-    wrong-begins-none text place h (v .0) (v .1 .0) (v .1 .1 .0) (rw (w .4 .given .1) at (w .2 .ensures))
-    (i .inv .3 ∙ high-wrong text (i .next) (i .left) (i .low) (i .high) (w .7 .taken) (w .8 .left) (w .11 .taken))))))
+    let v = w .5 .given .0 in
+    let i = w .7 in
+    wrong-begins-none text place h (v .0) (v .1 .0) (v .1 .1 .0) (rw (w .5 .given .1) at (w .3 .ensures))
+    (i .inv .3 ∙ high-wrong text (i .next) (i .left) (i .low) (i .high) (w .8 .taken) (w .9 .left) (w .12 .taken))))))
     (c .sequences-test .came)
 
 returns : tie.Need-returns Inv-loop μ-loop Inv-sequences μ-sequences
@@ -124,14 +141,14 @@ unfolding paperCheck
 returns c =
     let text = c .before .before .before .before .args .text .now in
     let place = c .before .before .sequences .place in
-    sym (c .before .before .sequences .inv .1 ∙ none-bad text place (c .if4 .taken) (none-begins (c .before) (c .if4 .taken)))
+    sym (c .before .before .sequences .inv .1 ∙ none-bad text place (c .if5 .taken) (none-begins (c .before) (c .if5 .taken)))
 
 returns-2 : tie.Need-returns-2 Inv-loop μ-loop Inv-sequences μ-sequences
 unfolding paperCheck
 returns-2 c =
     let text = c .before .before .before .before .args .text .now in
     let place = c .before .before .sequences .place in
-    sym (c .before .before .sequences .inv .1 ∙ end-good text place (c .if4 .left))
+    sym (c .before .before .sequences .inv .1 ∙ end-good text place (c .if5 .left))
 
 pub check-spec : {M : Type 1} → statement M
 check-spec =
@@ -142,7 +159,11 @@ check-spec =
     Inv-sequences
     μ-sequences
     sequences-holds
-    shared-slice-read-lead-of
+    shared-slice-read-first
+    add-after-plain
+    after-plain-requires
+    sequences-less
+    sequences-again
     lead-of-requires
     enum-known-count
     enum-told
@@ -153,7 +174,7 @@ check-spec =
     add-next-2
     loop-less
     loop-again
-    sequences-less
-    sequences-again
+    sequences-less-2
+    sequences-again-2
     returns
     returns-2)

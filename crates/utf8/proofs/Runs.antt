@@ -1,0 +1,98 @@
+-- Runs of bytes below 128: the check goes on behind them.
+-- Assumes nothing.
+use mathlib.Core.Path.{_≡_, refl, ap, _∙_, subst}
+use mathlib.Core.Bool.{Bool, true, false}
+use mathlib.Core.List.{List}
+use Prim.Native.Nat.{ℕ, zero, suc, _+_, _*_, _/_, _%_, _-_, _≤_, _<_}
+use native.Mathlib.Omega.{arith}
+use lib.Dec.{ltb}
+use lib.ListN.{length, drop, getD}
+use borrow.Author.Tests.{ltb-true, ltb-false}
+use Rattle.utf8.specs.declared.lead.Lead.the-variants.{Follow}
+use Rattle.utf8.specs.Table.{UTF8-1, UTF8-2, UTF8-3, UTF8-4, UTF8-char}
+use Rattle.utf8.specs.Lead.{tailsOf, asTails, ranges}
+use Rattle.utf8.specs.Check.{sequenceLength}
+use Rattle.utf8.specs.Runs.{PlainTo, fourOf}
+use Rattle.utf8.proofs.Places.{checkAt, sequence-leads}
+use Rattle.utf8.proofs.FirstByte.{chosen}
+use Rattle.utf8.proofs.Following.{right-begins, nothing-left}
+
+pub untrue : false ≡ true → ⊥
+untrue e = let h : 1 < 0 = ltb-true 1 0 e in omega arith
+
+pub none-passed : (s : List ℕ) (place : ℕ) → place ≤ length s → PlainTo s place place
+none-passed s place h = record { ahead = omega arith; inside = h; plain = λ i l u. absurd (omega arith) }
+
+pub one-passed : (s : List ℕ) (place : ℕ) → place < length s → getD s place 0 < 128 → PlainTo s place (place + 1)
+one-passed s place h k =
+    record { ahead = omega arith; inside = omega arith; plain = λ i l u. let e : place ≡ i = omega arith in rw (← e) k }
+
+-- two runs, one behind the other, are one
+pub further : {s : List ℕ} {a b c : ℕ} → PlainTo s a b → PlainTo s b c → PlainTo s a c
+further {s} {a} {b} {c} p q =
+    record {
+      ahead = omega (arith, p .ahead, q .ahead);
+      inside = q .inside;
+      plain = λ i l u. by i l u (ltb i b) refl;
+    }
+  where
+    by : (i : ℕ) → a ≤ i → i < c → (t : Bool) → ltb i b ≡ t → getD s i 0 < 128
+    by i l u true e = p .plain i l (ltb-true i b e)
+    by i l u false e = q .plain i (ltb-false i b e) u
+
+-- a byte below 128 is a sequence by itself
+alone : (s : List ℕ) (place : ℕ) → place < length s → getD s place 0 < 128 → sequenceLength UTF8-char (drop place s) ≡ 1
+unfolding asTails ranges UTF8-char UTF8-1 UTF8-2 UTF8-3 UTF8-4
+alone s place h k = right-begins s place h 0 0x80 0xBF (chosen 0 (getD s place 0) refl (omega arith) (omega arith)) (nothing-left s 0 0x80 0xBF (place + 1) refl)
+
+passed-by : (s : List ℕ) (k a b : ℕ) → a + k ≡ b → PlainTo s a b → checkAt s a ≡ checkAt s b
+passed-by s zero a b e p = let z : a ≡ b = omega arith in ap (checkAt s) z
+passed-by s (suc k) a b e p =
+    let h : a < length s = omega (arith, p .inside) in
+    let z : a + 1 + k ≡ b = omega arith in
+    sequence-leads s a 0 (alone s a h (p .plain a (omega arith) (omega arith)))
+    ∙ passed-by s k (a + 1) b z (record { ahead = omega arith; inside = p .inside; plain = λ i l u. p .plain i (omega arith) u })
+
+pub run-passed : {s : List ℕ} {a b : ℕ} → PlainTo s a b → checkAt s a ≡ checkAt s b
+run-passed {s} {a} {b} p = passed-by s (b - a) a b (omega (arith, p .ahead)) p
+
+-- of eight bytes in one number none has its highest bit, where none of the number's digits to base 256 has
+digits : (a b c d e f g h w : ℕ) → a < 256 → b < 256 → c < 256 → d < 256 → e < 256 → f < 256 → g < 256 → h < 256
+    → w ≡ a + b * 256 + c * 65536 + d * 16777216 + (e + f * 256 + g * 65536 + h * 16777216) * 4294967296
+    → w % 256 ≤ 127 → w / 256 % 256 ≤ 127 → w / 65536 % 256 ≤ 127 → w / 16777216 % 256 ≤ 127
+    → w / 4294967296 % 256 ≤ 127 → w / 1099511627776 % 256 ≤ 127 → w / 281474976710656 % 256 ≤ 127 → w / 72057594037927936 < 128
+    → (a < 128) × (b < 128) × (c < 128) × (d < 128) × (e < 128) × (f < 128) × (g < 128) × (h < 128)
+digits a b c d e f g h w la lb lc ld le lf lg lh is ta tb tc td te tf tg th =
+    (omega arith, omega arith, omega arith, omega arith, omega arith, omega arith, omega arith, omega arith)
+
+below-eight : (P : ℕ → Type 0) → P 0 → P 1 → P 2 → P 3 → P 4 → P 5 → P 6 → P 7 → (k : ℕ) → k < 8 → P k
+below-eight P a b c d e f g h zero l = a
+below-eight P a b c d e f g h (suc zero) l = b
+below-eight P a b c d e f g h (suc (suc zero)) l = c
+below-eight P a b c d e f g h (suc (suc (suc zero))) l = d
+below-eight P a b c d e f g h (suc (suc (suc (suc zero)))) l = e
+below-eight P a b c d e f g h (suc (suc (suc (suc (suc zero))))) l = f
+below-eight P a b c d e f g h (suc (suc (suc (suc (suc (suc zero)))))) l = g
+below-eight P a b c d e f g h (suc (suc (suc (suc (suc (suc (suc zero))))))) l = h
+below-eight P a b c d e f g h (suc (suc (suc (suc (suc (suc (suc (suc k)))))))) l = absurd (omega arith)
+
+pub eight-passed : (s : List ℕ) (start w : ℕ) → ((i : ℕ) → getD s i 0 < 256) → start + 8 ≤ length s → w ≡ fourOf s start + fourOf s (start + 4) * 4294967296
+    → w % 256 ≤ 127 → w / 256 % 256 ≤ 127 → w / 65536 % 256 ≤ 127 → w / 16777216 % 256 ≤ 127
+    → w / 4294967296 % 256 ≤ 127 → w / 1099511627776 % 256 ≤ 127 → w / 281474976710656 % 256 ≤ 127 → w / 72057594037927936 < 128
+    → PlainTo s start (start + 8)
+eight-passed s start w bytes room is ta tb tc td te tf tg th =
+    let five : start + 4 + 1 ≡ start + 5 = omega arith in
+    let six : start + 4 + 2 ≡ start + 6 = omega arith in
+    let seven : start + 4 + 3 ≡ start + 7 = omega arith in
+    let at : (k : ℕ) → ℕ = λ k. getD s (start + k) 0 in
+    let first : getD s start 0 ≡ at 0 = ap (λ (i : ℕ). getD s i 0) (let z : start ≡ start + 0 = omega arith in z) in
+    let is′ : w ≡ at 0 + at 1 * 256 + at 2 * 65536 + at 3 * 16777216 + (at 4 + at 5 * 256 + at 6 * 65536 + at 7 * 16777216) * 4294967296 = is ∙ rw (first, five, six, seven) refl in
+    let d = digits (at 0) (at 1) (at 2) (at 3) (at 4) (at 5) (at 6) (at 7) w (bytes _) (bytes _) (bytes _) (bytes _) (bytes _) (bytes _) (bytes _) (bytes _) is′ ta tb tc td te tf tg th in
+    record {
+      ahead = omega arith;
+      inside = room;
+      plain = λ i l u.
+          let e : start + (i - start) ≡ i = omega arith in
+          subst (λ (j : ℕ). getD s j 0 < 128) e
+          (below-eight (λ (k : ℕ). at k < 128) (d .0) (d .1) (d .2) (d .3) (d .4) (d .5) (d .6) (d .7) (i - start) (omega arith));
+    }

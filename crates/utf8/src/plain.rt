@@ -1,0 +1,123 @@
+// Bytes below 128, each a sequence by itself, passed many at a time.
+ghost use mathlib.Core.Path.{_≡_};
+ghost use mathlib.Core.Bool.{true};
+ghost use Prim.Native.Nat.{_+_, _≤_, _<_};
+ghost use lib.ListN.{length};
+ghost use Rattle.utf8.specs.Runs.{PlainTo, fourOf};
+
+// The place after the bytes below 128 from a place on.
+pub(crate) fn after_plain(text: &[u8], start: usize) -> usize
+    requires { ⌜ start ≤ length (now text) ⌝ }
+    ensures { λ r. ⌜ PlainTo (now (text .entry)) start r ⌝ }
+{
+    let many = by_thirty_two(text, start);
+    let some = by_eight(text, many);
+    one_by_one(text, some)
+}
+
+// The place after those that stand there by thirty-twos.
+fn by_thirty_two(text: &[u8], start: usize) -> usize
+    requires { ⌜ start ≤ length (now text) ⌝ }
+    ensures { λ r. ⌜ PlainTo (now (text .entry)) start r ⌝ }
+{
+    let mut place = start;
+    while 32 <= text.len() - place {
+        if !eight_plain(text, place) {
+            return place;
+        }
+        if !eight_plain(text, place + 8) {
+            return place;
+        }
+        if !eight_plain(text, place + 16) {
+            return place;
+        }
+        if !eight_plain(text, place + 24) {
+            return place;
+        }
+        place += 32;
+    }
+    place
+}
+
+// The place after those that stand there by eights.
+fn by_eight(text: &[u8], start: usize) -> usize
+    requires { ⌜ start ≤ length (now text) ⌝ }
+    ensures { λ r. ⌜ PlainTo (now (text .entry)) start r ⌝ }
+{
+    let mut place = start;
+    while 8 <= text.len() - place {
+        if !eight_plain(text, place) {
+            return place;
+        }
+        place += 8;
+    }
+    place
+}
+
+// The place after those that stand there.
+fn one_by_one(text: &[u8], start: usize) -> usize
+    requires { ⌜ start ≤ length (now text) ⌝ }
+    ensures { λ r. ⌜ PlainTo (now (text .entry)) start r ⌝ }
+{
+    let mut place = start;
+    while place < text.len() {
+        if 0x7F < text[place] {
+            return place;
+        }
+        place += 1;
+    }
+    place
+}
+
+// Whether the eight bytes from a place on are below 128: in one number of 64 bits, no byte has its highest bit.
+fn eight_plain(text: &[u8], start: usize) -> bool
+    requires { ⌜ start + 8 ≤ length (now text) ⌝ }
+    ensures { λ r. ⌜ (r ≡ true → PlainTo (now (text .entry)) start (start + 8)) ⌝ }
+{
+    let low = four(text, start);
+    let high = four(text, start + 4);
+    let word = low + high * 4294967296;
+    if 127 < word % 256 {
+        return false;
+    }
+    if 127 < word / 256 % 256 {
+        return false;
+    }
+    if 127 < word / 65536 % 256 {
+        return false;
+    }
+    if 127 < word / 16777216 % 256 {
+        return false;
+    }
+    if 127 < word / 4294967296 % 256 {
+        return false;
+    }
+    if 127 < word / 1099511627776 % 256 {
+        return false;
+    }
+    if 127 < word / 281474976710656 % 256 {
+        return false;
+    }
+    word / 72057594037927936 < 128
+}
+
+// The four bytes from a place on as a number, the first the lowest.
+fn four(text: &[u8], start: usize) -> u64
+    requires { ⌜ start + 4 ≤ length (now text) ⌝ }
+    ensures { λ r. ⌜ r ≡ fourOf (now (text .entry)) start ⌝ }
+    ensures { λ r. ⌜ r < 4294967296 ⌝ }
+{
+    let first = wide(text[start]);
+    let second = wide(text[start + 1]);
+    let third = wide(text[start + 2]);
+    let fourth = wide(text[start + 3]);
+    first + second * 256 + third * 65536 + fourth * 16777216
+}
+
+// A byte as a number of 64 bits.
+fn wide(byte: u8) -> u64
+    ensures { λ r. ⌜ r ≡ byte ⌝ }
+    ensures { λ r. ⌜ r < 256 ⌝ }
+{
+    byte as u64
+}
