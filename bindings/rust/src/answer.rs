@@ -1,0 +1,79 @@
+//! What a call answers, from the eight numbers by which the library tells it.
+use crate::tag::Tag;
+use core::fmt;
+
+/// The eight numbers of an answer, in the order that bindings/c/thaolisem.h gives.
+pub(crate) type Numbers = [u64; 8];
+
+/// Why a call was not accepted.
+#[derive(Debug, Clone, Copy, PartialEq, Eq)]
+pub struct Refusal {
+    /// 1 to 18, by the table in bindings/c/thaolisem.h; 0 where the library told what this crate has no name for, as one of another version might.
+    pub number: u64,
+    /// What the table says that it carries.
+    pub carried: Carried,
+    /// The tags read, where a body or the walk was asked for; else 0.
+    pub tags: usize,
+}
+
+/// What a refusal carries.
+#[derive(Debug, Clone, Copy, PartialEq, Eq)]
+pub enum Carried {
+    /// A length, a place, a byte or a count; 0 where the table says 0.
+    Amount(u64),
+    /// The tag found, in 4, 5, 6 and 8.
+    TagFound(Tag),
+}
+
+impl Refusal {
+    /// The refusal of numbers that name nothing here.
+    pub(crate) const UNNAMED: Self = Refusal::carrying(0, 0);
+
+    /// A refusal that carries an amount.
+    pub(crate) const fn carrying(number: u64, amount: usize) -> Self {
+        Refusal { number, carried: Carried::Amount(amount as u64), tags: 0 }
+    }
+
+    /// A refusal that carries the tag found.
+    pub(crate) const fn of_tag(number: u64, tag: Tag) -> Self {
+        Refusal { number, carried: Carried::TagFound(tag), tags: 0 }
+    }
+}
+
+impl fmt::Display for Refusal {
+    fn fmt(&self, out: &mut fmt::Formatter) -> fmt::Result {
+        match self.carried {
+            Carried::Amount(amount) => write!(out, "refused {} carrying {amount}", self.number),
+            Carried::TagFound(tag) => write!(out, "refused {} carrying {tag:?}", self.number),
+        }
+    }
+}
+
+/// Whether an answer is accepted, else its refusal.
+#[inline]
+pub(crate) fn accepted(told: &Numbers) -> Result<(), Refusal> {
+    if told[0] == 0 {
+        Ok(())
+    } else {
+        Err(refusal(told))
+    }
+}
+
+/// The refusal that the numbers tell.
+#[cold]
+pub(crate) fn refusal(told: &Numbers) -> Refusal {
+    let carried = match told[1] {
+        0 => Carried::Amount(told[2]),
+        class => match Tag::told(class, told[2], told[3]) {
+            Some(tag) => Carried::TagFound(tag),
+            None => return Refusal::UNNAMED,
+        },
+    };
+    Refusal { number: told[0], carried, tags: told[4] as usize }
+}
+
+/// The part of a buffer that a place and a length tell, where it lies inside.
+#[inline]
+pub(crate) fn part(buf: &[u8], place: u64, len: u64) -> Option<&[u8]> {
+    buf.get(place as usize..)?.get(..len as usize)
+}

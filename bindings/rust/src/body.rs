@@ -1,0 +1,71 @@
+//! Tagged bodies: what stands between an opening tag and its closing tag.
+use crate::answer::{accepted, part, Numbers, Refusal};
+use crate::calls;
+use crate::reader::Reader;
+
+/// A body found.
+#[derive(Debug, Clone, Copy, PartialEq, Eq)]
+pub struct Body<'a> {
+    /// Its bytes, without the opening and the closing tag.
+    pub view: &'a [u8],
+    /// The number of its opening and closing tags.
+    pub number: u8,
+    /// The tags read after the opening, the closing included.
+    pub tags: usize,
+}
+
+/// The body whose opening tag is at the reader's place, and its number.
+#[inline]
+pub fn get_tagged_body<'a>(reader: &mut Reader, buf: &'a [u8]) -> Result<(&'a [u8], u8), Refusal> {
+    let body = get_tagged_body_within(reader.view(buf).len(), reader, buf)?;
+    Ok((body.view, body.number))
+}
+
+/// The body whose opening tag, of the number expected, is at the reader's place.
+#[inline]
+pub fn get_tagged_body_for_tag<'a>(
+    reader: &mut Reader,
+    buf: &'a [u8],
+    expected_tag_number: u8,
+) -> Result<&'a [u8], Refusal> {
+    let allowance = reader.view(buf).len();
+    let body = get_tagged_body_for_tag_within(allowance, reader, buf, expected_tag_number)?;
+    Ok(body.view)
+}
+
+/// The body at the reader's place, with so many tags read after its opening at the most.
+#[inline]
+pub fn get_tagged_body_within<'a>(
+    allowance: usize,
+    reader: &mut Reader,
+    buf: &'a [u8],
+) -> Result<Body<'a>, Refusal> {
+    let view = reader.view(buf);
+    found(calls::get_tagged_body(allowance, view, reader.index), reader, view)
+}
+
+/// The body of the number expected at the reader's place, with so many tags read after its opening at the most.
+#[inline]
+pub fn get_tagged_body_for_tag_within<'a>(
+    allowance: usize,
+    reader: &mut Reader,
+    buf: &'a [u8],
+    expected_tag_number: u8,
+) -> Result<Body<'a>, Refusal> {
+    let view = reader.view(buf);
+    let told = calls::get_tagged_body_for_tag(expected_tag_number, allowance, view, reader.index);
+    found(told, reader, view)
+}
+
+/// The body that the numbers tell; the reader goes on behind its closing tag.
+#[inline]
+fn found<'a>(told: Numbers, reader: &mut Reader, view: &'a [u8]) -> Result<Body<'a>, Refusal> {
+    accepted(&told)?;
+    let body = Body {
+        view: part(view, told[1], told[2]).ok_or(Refusal::UNNAMED)?,
+        number: u8::try_from(told[3]).map_err(|_| Refusal::UNNAMED)?,
+        tags: told[4] as usize,
+    };
+    reader.index = told[5] as usize;
+    Ok(body)
+}
