@@ -1,0 +1,47 @@
+//! Answers the requests of the program replay by this crate, so that `oracle/compare` can hold the crate to the given Rust
+//! and to 01 read a second time: PORT=target/bindings/replay oracle/compare 1 20000
+mod reading;
+mod writing;
+
+use protocol::Request;
+use thaolisem::{Carried, Refusal, Tag, TagNumber};
+
+fn main() -> std::io::Result<()> {
+    protocol::answer_all(|request| match request {
+        Request::Read { what, place, buf } => reading::answer(what, buf, *place),
+        Request::Write { what, place, capacity } => {
+            // what the types of this crate cannot say is left to the reference
+            writing::answer(what, *place, *capacity).unwrap_or_else(|| reference::answer(request))
+        }
+    })
+}
+
+/// A tag as the answers print it.
+fn printed(tag: Tag) -> String {
+    let (class, number) = match tag.number {
+        TagNumber::Application(number) => ('A', number as u8),
+        TagNumber::ContextSpecific(number) => ('C', number),
+        TagNumber::ContextSpecificOpening(number) => ('O', number),
+        TagNumber::ContextSpecificClosing(number) => ('X', number),
+    };
+    format!("{class} {number} {}", tag.value)
+}
+
+/// A refusal as the answers print it, without the count.
+fn refused(refusal: Refusal) -> String {
+    let carried = match refusal.carried {
+        Carried::Amount(amount) => amount.to_string(),
+        Carried::TagFound(tag) => printed(tag),
+    };
+    format!("refused {} {carried}", refusal.number)
+}
+
+/// The tag number that a request names.
+fn named(name: protocol::TagName) -> TagNumber {
+    match name.class {
+        protocol::Class::Application => TagNumber::Application(name.number.try_into().unwrap()),
+        protocol::Class::Context => TagNumber::ContextSpecific(name.number),
+        protocol::Class::Opening => TagNumber::ContextSpecificOpening(name.number),
+        protocol::Class::Closing => TagNumber::ContextSpecificClosing(name.number),
+    }
+}

@@ -1,0 +1,87 @@
+//! Writes, asked of this crate.
+use crate::{named, refused};
+use protocol::{put_hex, Write};
+use thaolisem::*;
+
+/// What a write answers, with the whole buffer; nothing where the types of this crate cannot say it, as text that is not UTF-8 and a choice above 33.
+pub fn answer(what: &Write, place: usize, capacity: usize) -> Option<String> {
+    let mut buf = vec![0xAA; capacity];
+    let mut writer = Writer { buf: &mut buf, index: place };
+    let mut answer = match write(what, &mut writer)? {
+        Ok(()) => format!("ok {} ", writer.index),
+        Err(_) if writer.index != place => "refused and the writer moved ".to_string(),
+        Err(refusal) => format!("{} ", refused(refusal)),
+    };
+    put_hex(&buf, &mut answer);
+    Some(answer)
+}
+
+fn write(what: &Write, writer: &mut Writer) -> Option<Result<(), Refusal>> {
+    Some(match what {
+        Write::Push(byte) => writer.push(*byte),
+        Write::Extend(bytes) => writer.extend_from_slice(bytes),
+        Write::Tag(tag) => Tag::new(named(tag.name), tag.value).encode(writer),
+        Write::Opening(number) => encode_opening_tag(writer, *number),
+        Write::Closing(number) => encode_closing_tag(writer, *number),
+        Write::Bool(number, value) => encode_context_bool(writer, *number, *value),
+        Write::Unsigned(context, value) => encode_unsigned(writer, *context, *value),
+        Write::Signed(context, value) => encode_signed(writer, *context, *value),
+        Write::Enumerated(context, value) => encode_enumerated(writer, *value, *context),
+        Write::Value(value) => named_value(value)?.encode(writer),
+        Write::Header(header) => named_header(header)?.encode(writer),
+    })
+}
+
+fn named_value(value: &protocol::Value) -> Option<ApplicationDataValue<'_>> {
+    Some(match value {
+        protocol::Value::Boolean(x) => ApplicationDataValue::Boolean(*x),
+        protocol::Value::Real(bits) => ApplicationDataValue::Real(f32::from_bits(*bits)),
+        protocol::Value::Double(bits) => ApplicationDataValue::Double(f64::from_bits(*bits)),
+        protocol::Value::Date { year, rest: [month, day, wday] } => {
+            ApplicationDataValue::Date(Date { year: *year, month: *month, day: *day, wday: *wday })
+        }
+        protocol::Value::Time([hour, minute, second, hundredths]) => {
+            let (hour, minute, second, hundredths) = (*hour, *minute, *second, *hundredths);
+            ApplicationDataValue::Time(Time { hour, minute, second, hundredths })
+        }
+        protocol::Value::ObjectId { kind, instance } => {
+            ApplicationDataValue::ObjectId(ObjectId { object_type: *kind, instance: *instance })
+        }
+        protocol::Value::Text(bytes) => {
+            let inner = core::str::from_utf8(bytes).ok()?;
+            ApplicationDataValue::CharacterString(CharacterString { inner })
+        }
+        protocol::Value::Octets(inner) => ApplicationDataValue::OctetString(OctetString { inner }),
+        protocol::Value::Bits(unused_bits, bits) => {
+            ApplicationDataValue::BitString(BitString { unused_bits: *unused_bits, bits })
+        }
+        protocol::Value::Enumerated(x) => ApplicationDataValue::Enumerated(*x),
+        protocol::Value::Unsigned(x) => ApplicationDataValue::UnsignedInt(*x),
+        protocol::Value::Signed(x) => ApplicationDataValue::SignedInt(*x),
+    })
+}
+
+fn named_header(header: &protocol::Header) -> Option<Header> {
+    let choice = |number: u8| ConfirmedServiceChoice::try_from(number).ok();
+    Some(match *header {
+        protocol::Header::Request { segments, size, id, choice: number } => {
+            Header::ConfirmedRequest(ConfirmedRequest {
+                max_segments: segments,
+                max_adpu: size,
+                invoke_id: id,
+                service_choice: choice(number)?,
+            })
+        }
+        protocol::Header::Simple { id, choice: number } => {
+            Header::SimpleAck(SimpleAck { invoke_id: id, service_choice: choice(number)? })
+        }
+        protocol::Header::Complex { id, choice: number } => {
+            Header::ComplexAck(ComplexAck { invoke_id: id, service_choice: choice(number)? })
+        }
+        protocol::Header::Segment { id, sequence, window } => Header::SegmentAck(SegmentAck {
+            invoke_id: id,
+            sequence_num: sequence,
+            proposed_window_size: window,
+        }),
+    })
+}
