@@ -10,6 +10,8 @@ test: kit
 	@$(MAKE) --no-print-directory programs
 	@tests/apdu-dump
 	@$(MAKE) --no-print-directory oracle
+	@$(MAKE) --no-print-directory lib
+	@tests/bindings
 	@rt ci
 	@tools/check-slips
 
