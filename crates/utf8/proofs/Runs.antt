@@ -12,7 +12,7 @@ use Rattle.utf8.specs.declared.lead.Lead.the-variants.{Follow}
 use Rattle.utf8.specs.Table.{UTF8-1, UTF8-2, UTF8-3, UTF8-4, UTF8-char}
 use Rattle.utf8.specs.Lead.{tailsOf, asTails, ranges}
 use Rattle.utf8.specs.Check.{sequenceLength}
-use Rattle.utf8.specs.Runs.{PlainTo, fourOf}
+use Rattle.utf8.specs.Runs.{PlainTo, LowBytes, eightOf}
 use Rattle.utf8.proofs.Places.{checkAt, sequence-leads}
 use Rattle.utf8.proofs.FirstByte.{chosen}
 use Rattle.utf8.proofs.Following.{right-begins, nothing-left}
@@ -56,14 +56,21 @@ passed-by s (suc k) a b e p =
 pub run-passed : {s : List ℕ} {a b : ℕ} → PlainTo s a b → checkAt s a ≡ checkAt s b
 run-passed {s} {a} {b} p = passed-by s (b - a) a b (omega (arith, p .ahead)) p
 
--- of eight bytes in one number none has its highest bit, where none of the number's digits to base 256 has
+-- eight bytes in one number are its digits to base 256
 digits : (a b c d e f g h w : ℕ) → a < 256 → b < 256 → c < 256 → d < 256 → e < 256 → f < 256 → g < 256 → h < 256
-    → w ≡ a + b * 256 + c * 65536 + d * 16777216 + (e + f * 256 + g * 65536 + h * 16777216) * 4294967296
-    → w % 256 ≤ 127 → w / 256 % 256 ≤ 127 → w / 65536 % 256 ≤ 127 → w / 16777216 % 256 ≤ 127
-    → w / 4294967296 % 256 ≤ 127 → w / 1099511627776 % 256 ≤ 127 → w / 281474976710656 % 256 ≤ 127 → w / 72057594037927936 < 128
+    → w ≡ a + b * 256 + c * 65536 + d * 16777216 + e * 4294967296 + f * 1099511627776 + g * 281474976710656 + h * 72057594037927936
+    → LowBytes w
     → (a < 128) × (b < 128) × (c < 128) × (d < 128) × (e < 128) × (f < 128) × (g < 128) × (h < 128)
-digits a b c d e f g h w la lb lc ld le lf lg lh is ta tb tc td te tf tg th =
-    (omega arith, omega arith, omega arith, omega arith, omega arith, omega arith, omega arith, omega arith)
+digits a b c d e f g h w la lb lc ld le lf lg lh is t = (
+  omega (arith, t .first),
+  omega (arith, t .second),
+  omega (arith, t .third),
+  omega (arith, t .fourth),
+  omega (arith, t .fifth),
+  omega (arith, t .sixth),
+  omega (arith, t .seventh),
+  omega (arith, t .eighth),
+)
 
 below-eight : (P : ℕ → Type 0) → P 0 → P 1 → P 2 → P 3 → P 4 → P 5 → P 6 → P 7 → (k : ℕ) → k < 8 → P k
 below-eight P a b c d e f g h zero l = a
@@ -76,18 +83,14 @@ below-eight P a b c d e f g h (suc (suc (suc (suc (suc (suc zero)))))) l = g
 below-eight P a b c d e f g h (suc (suc (suc (suc (suc (suc (suc zero))))))) l = h
 below-eight P a b c d e f g h (suc (suc (suc (suc (suc (suc (suc (suc k)))))))) l = absurd (omega arith)
 
-pub eight-passed : (s : List ℕ) (start w : ℕ) → ((i : ℕ) → getD s i 0 < 256) → start + 8 ≤ length s → w ≡ fourOf s start + fourOf s (start + 4) * 4294967296
-    → w % 256 ≤ 127 → w / 256 % 256 ≤ 127 → w / 65536 % 256 ≤ 127 → w / 16777216 % 256 ≤ 127
-    → w / 4294967296 % 256 ≤ 127 → w / 1099511627776 % 256 ≤ 127 → w / 281474976710656 % 256 ≤ 127 → w / 72057594037927936 < 128
+pub eight-passed : (s : List ℕ) (start w : ℕ) → ((i : ℕ) → getD s i 0 < 256) → start + 8 ≤ length s → w ≡ eightOf s start
+    → LowBytes w
     → PlainTo s start (start + 8)
-eight-passed s start w bytes room is ta tb tc td te tf tg th =
-    let five : start + 4 + 1 ≡ start + 5 = omega arith in
-    let six : start + 4 + 2 ≡ start + 6 = omega arith in
-    let seven : start + 4 + 3 ≡ start + 7 = omega arith in
+eight-passed s start w bytes room is t =
     let at : (k : ℕ) → ℕ = λ k. getD s (start + k) 0 in
     let first : getD s start 0 ≡ at 0 = ap (λ (i : ℕ). getD s i 0) (let z : start ≡ start + 0 = omega arith in z) in
-    let is′ : w ≡ at 0 + at 1 * 256 + at 2 * 65536 + at 3 * 16777216 + (at 4 + at 5 * 256 + at 6 * 65536 + at 7 * 16777216) * 4294967296 = is ∙ rw (first, five, six, seven) refl in
-    let d = digits (at 0) (at 1) (at 2) (at 3) (at 4) (at 5) (at 6) (at 7) w (bytes _) (bytes _) (bytes _) (bytes _) (bytes _) (bytes _) (bytes _) (bytes _) is′ ta tb tc td te tf tg th in
+    let is′ : w ≡ at 0 + at 1 * 256 + at 2 * 65536 + at 3 * 16777216 + at 4 * 4294967296 + at 5 * 1099511627776 + at 6 * 281474976710656 + at 7 * 72057594037927936 = is ∙ rw first refl in
+    let d = digits (at 0) (at 1) (at 2) (at 3) (at 4) (at 5) (at 6) (at 7) w (bytes _) (bytes _) (bytes _) (bytes _) (bytes _) (bytes _) (bytes _) (bytes _) is′ t in
     record {
       ahead = omega arith;
       inside = room;
@@ -96,3 +99,14 @@ eight-passed s start w bytes room is ta tb tc td te tf tg th =
           subst (λ (j : ℕ). getD s j 0 < 128) e
           (below-eight (λ (k : ℕ). at k < 128) (d .0) (d .1) (d .2) (d .3) (d .4) (d .5) (d .6) (d .7) (i - start) (omega arith));
     }
+
+-- a run that ends only at a byte of 128 or more goes ahead of a byte below
+pub goes-ahead : {s : List ℕ} {place end : ℕ} → place < length s → getD s place 0 < 128 → PlainTo s place end → (end < length s → 128 ≤ getD s end 0) → place < end
+goes-ahead {s} {place} {end} h k p stops = by (ltb place end) refl
+  where
+    by : (t : Bool) → ltb place end ≡ t → place < end
+    by true e = ltb-true place end e
+    by false e =
+        let z : end ≡ place = omega (arith, ltb-false place end e, p .ahead) in
+        let l : 128 ≤ getD s place 0 = subst (λ (j : ℕ). 128 ≤ getD s j 0) z (stops (omega arith)) in
+        absurd (omega arith)

@@ -23,7 +23,7 @@ pub fn check(text: &[u8]) -> Checked
     'sequences: while place < text.len() {
         let first = text[place];
         if first < 0x80 {
-            place = plain::after_plain(text, place + 1);
+            place = plain::after_plain(text, place);
             continue 'sequences;
         }
         let Lead::Follow(count, first_low, first_high) = lead::lead_of(first) else {

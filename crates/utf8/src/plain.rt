@@ -2,13 +2,14 @@
 ghost use mathlib.Core.Path.{_≡_};
 ghost use mathlib.Core.Bool.{true};
 ghost use Prim.Native.Nat.{_+_, _≤_, _<_};
-ghost use lib.ListN.{length};
-ghost use Rattle.utf8.specs.Runs.{PlainTo, fourOf};
+ghost use lib.ListN.{length, getD};
+ghost use Rattle.utf8.specs.Runs.{PlainTo, LowBytes, eightOf};
 
 // The place after the bytes below 128 from a place on.
 pub(crate) fn after_plain(text: &[u8], start: usize) -> usize
     requires { ⌜ start ≤ length (now text) ⌝ }
     ensures { λ r. ⌜ PlainTo (now (text .entry)) start r ⌝ }
+    ensures { λ r. ⌜ (r < length (now (text .entry)) → 128 ≤ getD (now (text .entry)) r 0) ⌝ }
 {
     let many = by_thirty_two(text, start);
     let some = by_eight(text, many);
@@ -22,16 +23,16 @@ fn by_thirty_two(text: &[u8], start: usize) -> usize
 {
     let mut place = start;
     while 32 <= text.len() - place {
-        if !eight_plain(text, place) {
+        if !plain(eight(text, place)) {
             return place;
         }
-        if !eight_plain(text, place + 8) {
+        if !plain(eight(text, place + 8)) {
             return place;
         }
-        if !eight_plain(text, place + 16) {
+        if !plain(eight(text, place + 16)) {
             return place;
         }
-        if !eight_plain(text, place + 24) {
+        if !plain(eight(text, place + 24)) {
             return place;
         }
         place += 32;
@@ -46,7 +47,7 @@ fn by_eight(text: &[u8], start: usize) -> usize
 {
     let mut place = start;
     while 8 <= text.len() - place {
-        if !eight_plain(text, place) {
+        if !plain(eight(text, place)) {
             return place;
         }
         place += 8;
@@ -58,6 +59,7 @@ fn by_eight(text: &[u8], start: usize) -> usize
 fn one_by_one(text: &[u8], start: usize) -> usize
     requires { ⌜ start ≤ length (now text) ⌝ }
     ensures { λ r. ⌜ PlainTo (now (text .entry)) start r ⌝ }
+    ensures { λ r. ⌜ (r < length (now (text .entry)) → 128 ≤ getD (now (text .entry)) r 0) ⌝ }
 {
     let mut place = start;
     while place < text.len() {
@@ -69,14 +71,10 @@ fn one_by_one(text: &[u8], start: usize) -> usize
     place
 }
 
-// Whether the eight bytes from a place on are below 128: in one number of 64 bits, no byte has its highest bit.
-fn eight_plain(text: &[u8], start: usize) -> bool
-    requires { ⌜ start + 8 ≤ length (now text) ⌝ }
-    ensures { λ r. ⌜ (r ≡ true → PlainTo (now (text .entry)) start (start + 8)) ⌝ }
+// Whether no byte of a number of eight bytes has its highest bit.
+fn plain(word: u64) -> bool
+    ensures { λ r. ⌜ (r ≡ true → LowBytes word) ⌝ }
 {
-    let low = four(text, start);
-    let high = four(text, start + 4);
-    let word = low + high * 4294967296;
     if 127 < word % 256 {
         return false;
     }
@@ -101,17 +99,20 @@ fn eight_plain(text: &[u8], start: usize) -> bool
     word / 72057594037927936 < 128
 }
 
-// The four bytes from a place on as a number, the first the lowest.
-fn four(text: &[u8], start: usize) -> u64
-    requires { ⌜ start + 4 ≤ length (now text) ⌝ }
-    ensures { λ r. ⌜ r ≡ fourOf (now (text .entry)) start ⌝ }
-    ensures { λ r. ⌜ r < 4294967296 ⌝ }
+// The eight bytes from a place on as a number, the first the lowest.
+fn eight(text: &[u8], start: usize) -> u64
+    requires { ⌜ start + 8 ≤ length (now text) ⌝ }
+    ensures { λ r. ⌜ r ≡ eightOf (now (text .entry)) start ⌝ }
 {
-    let first = wide(text[start]);
-    let second = wide(text[start + 1]);
-    let third = wide(text[start + 2]);
-    let fourth = wide(text[start + 3]);
-    first + second * 256 + third * 65536 + fourth * 16777216
+    let low = wide(text[start])
+        + wide(text[start + 1]) * 256
+        + wide(text[start + 2]) * 65536
+        + wide(text[start + 3]) * 16777216;
+    low
+        + wide(text[start + 4]) * 4294967296
+        + wide(text[start + 5]) * 1099511627776
+        + wide(text[start + 6]) * 281474976710656
+        + wide(text[start + 7]) * 72057594037927936
 }
 
 // A byte as a number of 64 bits.

@@ -14,7 +14,7 @@ use Rattle.utf8.specs.Answer.{paperCheck}
 use Rattle.utf8.specs.Lead.{tailsOf, ranges, asTails}
 use Rattle.utf8.proofs.Places.{checkAt, end-good, none-bad, sequence-leads}
 use Rattle.utf8.proofs.Following.{stray-begins-none, wrong-begins-none, right-begins, nothing-left, ended-wrong, byte-passed, low-wrong, high-wrong}
-use Rattle.utf8.proofs.Runs.{one-passed, further, run-passed}
+use Rattle.utf8.proofs.Runs.{run-passed, goes-ahead}
 use Rattle.utf8.proofs.check.Statement.{statement}
 use Rattle.utf8.proofs.check.Tie as tie
 
@@ -38,21 +38,15 @@ sequences-holds c = (omega arith, refl)
 shared-slice-read-first : tie.Need-shared-slice-read-first Inv-loop μ-loop Inv-sequences μ-sequences
 shared-slice-read-first c = search needs
 
-add-after-plain : tie.Need-add-after-plain Inv-loop μ-loop Inv-sequences μ-sequences
-add-after-plain c = search needs
-
 after-plain-requires : tie.Need-after-plain-requires Inv-loop μ-loop Inv-sequences μ-sequences
 after-plain-requires c κs = search needs
 
 sequences-less : tie.Need-sequences-less Inv-loop μ-loop Inv-sequences μ-sequences
-sequences-less c = omega (arith, c .after-plain .ensures .ahead, c .after-plain .ensures .inside)
+sequences-less c =
+    omega (arith, goes-ahead (c .before .before .before .sequences-test .taken) (c .before .if1 .taken) (c .after-plain .ensures .0) (c .after-plain .ensures .1), c .after-plain .ensures .0 .inside)
 
 sequences-again : tie.Need-sequences-again Inv-loop μ-loop Inv-sequences μ-sequences
-sequences-again c =
-    let l = c .before .before .before .before .sequences in
-    let text = c .before .before .before .before .before .before .args .text .now in
-    let one = one-passed text (l .place) (omega arith) (omega (arith, c .before .if1 .taken)) in
-    (c .after-plain .ensures .inside, l .inv .1 ∙ run-passed (further one (c .after-plain .ensures)))
+sequences-again c = (c .after-plain .ensures .0 .inside, c .before .before .before .before .sequences .inv .1 ∙ run-passed (c .after-plain .ensures .0))
 
 lead-of-requires : tie.Need-lead-of-requires Inv-loop μ-loop Inv-sequences μ-sequences
 lead-of-requires c κs = search needs
@@ -160,7 +154,6 @@ check-spec =
     μ-sequences
     sequences-holds
     shared-slice-read-first
-    add-after-plain
     after-plain-requires
     sequences-less
     sequences-again

@@ -15,7 +15,7 @@ one-by-one-requires : tie.Need-one-by-one-requires
 one-by-one-requires c κs = search needs
 
 returns : tie.Need-returns
-returns c = further (further (c .before .before .by-thirty-two .ensures) (c .before .by-eight .ensures)) (c .one-by-one .ensures)
+returns c = (further (further (c .before .before .by-thirty-two .ensures) (c .before .by-eight .ensures)) (c .one-by-one .ensures .0), c .one-by-one .ensures .1)
 
 pub after-plain-spec : {M : Type 1} → statement M
 after-plain-spec =

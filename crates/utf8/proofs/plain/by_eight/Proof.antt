@@ -2,11 +2,10 @@
 -- Assumes nothing.
 use Prim.Native.Nat.{_+_, _-_, _≤_}
 use native.Mathlib.Omega.{arith}
-use mathlib.Core.Path.{_≡_, refl, _∙_, sym}
-use borrow.Author.Tests.{not-true, not-false}
+use borrow.Author.Tests.{not-false}
 use lib.ListN.{length}
 use Rattle.utf8.specs.Runs.{PlainTo}
-use Rattle.utf8.proofs.Runs.{none-passed, one-passed, further}
+use Rattle.utf8.proofs.Runs.{further, eight-passed}
 use borrow.Author.Needs.{needs}
 use Rattle.utf8.proofs.plain.by_eight.Statement.{statement}
 use Rattle.utf8.proofs.plain.by_eight.Tie as tie
@@ -23,8 +22,11 @@ loop-holds c = search needs
 sub-loop : tie.Need-sub-loop Inv-loop μ-loop
 sub-loop c = search needs
 
-eight-plain-requires : tie.Need-eight-plain-requires Inv-loop μ-loop
-eight-plain-requires c κs = search needs
+eight-requires : tie.Need-eight-requires Inv-loop μ-loop
+eight-requires c κs = search needs
+
+plain-requires : tie.Need-plain-requires Inv-loop μ-loop
+plain-requires c κs = search needs
 
 returns : tie.Need-returns Inv-loop μ-loop
 returns c = search needs
@@ -36,7 +38,11 @@ loop-less : tie.Need-loop-less Inv-loop μ-loop
 loop-less c = search needs
 
 loop-again : tie.Need-loop-again Inv-loop μ-loop
-loop-again c = let l = c .before .before .before .loop in (omega arith, omega arith, further (l .inv .2) (c .before .eight-plain .ensures (not-false _ (c .if1 .left))))
+loop-again c =
+    let l = c .before .before .before .before .loop in
+    let text = c .before .before .before .before .before .before .args .text .now in
+    let e = eight-passed text (l .place) _ (λ i. c .before .before .before .before .before .shared-slice-known .given i .fits) (omega arith) (c .before .before .eight .ensures) (c .before .plain .ensures (not-false _ (c .if1 .left))) in
+    (omega arith, omega arith, further (l .inv .2) e)
 
 returns-2 : tie.Need-returns-2 Inv-loop μ-loop
 returns-2 c = search needs
@@ -49,7 +55,8 @@ by-eight-spec =
     μ-loop
     loop-holds
     sub-loop
-    eight-plain-requires
+    eight-requires
+    plain-requires
     returns
     add-place
     loop-less

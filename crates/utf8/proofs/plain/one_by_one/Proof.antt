@@ -2,11 +2,9 @@
 -- Assumes nothing.
 use Prim.Native.Nat.{_+_, _-_, _≤_}
 use native.Mathlib.Omega.{arith}
-use mathlib.Core.Path.{_≡_, refl, _∙_, sym}
-use borrow.Author.Tests.{not-true, not-false}
 use lib.ListN.{length}
 use Rattle.utf8.specs.Runs.{PlainTo}
-use Rattle.utf8.proofs.Runs.{none-passed, one-passed, further}
+use Rattle.utf8.proofs.Runs.{one-passed, further}
 use borrow.Author.Needs.{needs}
 use Rattle.utf8.proofs.plain.one_by_one.Statement.{statement}
 use Rattle.utf8.proofs.plain.one_by_one.Tie as tie
