@@ -50,3 +50,21 @@ def by_valgrind(program, given):
 def count(program, given):
     """The instructions of one run on this input."""
     return by_emulator(program, given) if emulator() else by_valgrind(program, given)
+
+
+def called(program, arguments, caller):
+    """The instructions of all that one function of the program calls in a run, by callgrind: from the first of each function called to its return."""
+    with tempfile.NamedTemporaryFile() as profile:
+        command = ["valgrind", "--tool=callgrind", f"--callgrind-out-file={profile.name}", program, *arguments]
+        subprocess.run(command, stdout=subprocess.DEVNULL, stderr=subprocess.DEVNULL, check=True)
+        rows = profile.read().decode().splitlines()
+    names, inside, total = {}, False, 0
+    for row, after in zip(rows, rows[1:]):
+        name = re.match(r"(c?)fn=\((\d+)\)(?: (.*))?", row)
+        if name and name[3]:
+            names[name[2]] = name[3]
+        if name and not name[1]:
+            inside = caller in names[name[2]]
+        if inside and row.startswith("calls="):
+            total += int(after.split()[1])
+    return total
