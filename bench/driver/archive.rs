@@ -2,9 +2,27 @@
 #[link(name = "thaolisem", kind = "static")]
 extern "C" {
     pub fn thaolisem_decode_tag(buf: *const u8, len: usize, place: usize, answer: &mut [u64; 8]);
-    pub fn thaolisem_decode_unsigned(content: u32, buf: *const u8, len: usize, place: usize, answer: &mut [u64; 8]);
-    pub fn thaolisem_decode_signed(content: u32, buf: *const u8, len: usize, place: usize, answer: &mut [u64; 8]);
-    pub fn thaolisem_get_tagged_body(allowance: usize, buf: *const u8, len: usize, place: usize, answer: &mut [u64; 8]);
+    pub fn thaolisem_decode_unsigned(
+        content: u32,
+        buf: *const u8,
+        len: usize,
+        place: usize,
+        answer: &mut [u64; 8],
+    );
+    pub fn thaolisem_decode_signed(
+        content: u32,
+        buf: *const u8,
+        len: usize,
+        place: usize,
+        answer: &mut [u64; 8],
+    );
+    pub fn thaolisem_get_tagged_body(
+        allowance: usize,
+        buf: *const u8,
+        len: usize,
+        place: usize,
+        answer: &mut [u64; 8],
+    );
     pub fn thaolisem_get_tagged_body_for_tag(
         expected: u8,
         allowance: usize,

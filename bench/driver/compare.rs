@@ -1,6 +1,7 @@
 // Both sides asked once on every input, and their answers compared.
 use crate::answer::Answer;
 use crate::inputs::{all, Beside, Input};
+use crate::spoken::spoken;
 use crate::{original, port};
 use std::panic::{catch_unwind, set_hook, AssertUnwindSafe};
 use std::process::ExitCode;
@@ -14,23 +15,28 @@ pub fn compare() -> ExitCode {
     ExitCode::from(u8::from(differing > 0))
 }
 
-// Whether both sides answer an input as it is said that they do.
+// Whether both sides answer an input as it is said that they do; where the original cannot, 01 read a second time is asked.
 fn agrees(input: &Input) -> bool {
     let request = input.request();
     let ours = port::ask(&request, 1);
-    if input.beside == Beside::Alone {
-        return true;
-    }
-    let theirs = catch_unwind(AssertUnwindSafe(|| original::ask(&request, 1))).ok();
-    let agreed = match &theirs {
-        Some(theirs) if input.beside == Beside::Same => theirs.told_by(&ours),
-        Some(theirs) if input.beside == Beside::Marker => marked(theirs, &ours),
-        Some(_) => false,
-        None => input.beside == Beside::Panics && ours.numbers[0] != Some(0),
+    let theirs = match input.beside {
+        Beside::Alone => None,
+        _ => catch_unwind(AssertUnwindSafe(|| original::ask(&request, 1))).ok(),
+    };
+    let agreed = match (&theirs, input.beside) {
+        (Some(theirs), Beside::Same) => theirs.told_by(&ours),
+        (Some(theirs), Beside::Marker) => marked(theirs, &ours),
+        (None, Beside::Panics | Beside::Alone) => {
+            spoken(&request, &ours) == reference::answer(&request)
+        }
+        _ => false,
     };
     if !agreed {
         println!("{} {}: the port {ours}", input.operation, input.name);
-        println!("    the original {}", theirs.map_or("panicked".to_string(), |theirs| theirs.to_string()));
+        println!(
+            "    the original {}",
+            theirs.map_or("gave none".to_string(), |theirs| theirs.to_string())
+        );
     }
     agreed
 }

@@ -17,6 +17,7 @@ mod port;
 #[allow(dead_code)]
 mod reading;
 mod repeat;
+mod spoken;
 mod told;
 #[path = "../../oracle/asking/values.rs"]
 #[allow(dead_code)]

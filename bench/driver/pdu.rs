@@ -42,19 +42,26 @@ pub fn encode(pdu: &Pdu, writer: &mut Writer) {
 pub fn named(header: Header) -> Pdu<'static> {
     match header {
         Header::Request { segments, size, id, .. } => {
-            let mut request = ConfirmedRequest::new(id, ConfirmedRequestService::ReadProperty(Default::default()));
+            let mut request = ConfirmedRequest::new(
+                id,
+                ConfirmedRequestService::ReadProperty(Default::default()),
+            );
             request.max_segments = (segments << 4).into();
             request.max_adpu = size.into();
             Pdu::Request(request)
         }
-        Header::Simple { id, choice } => {
-            Pdu::Simple(SimpleAck { invoke_id: id, service_choice: choice.try_into().expect("a choice") })
-        }
-        Header::Complex { id, .. } => {
-            Pdu::Complex(ComplexAck { invoke_id: id, service: ComplexAckService::ReadProperty(Default::default()) })
-        }
-        Header::Segment { id, sequence, window } => {
-            Pdu::Segment(SegmentAck { invoke_id: id, sequence_num: sequence, proposed_window_size: window })
-        }
+        Header::Simple { id, choice } => Pdu::Simple(SimpleAck {
+            invoke_id: id,
+            service_choice: choice.try_into().expect("a choice"),
+        }),
+        Header::Complex { id, .. } => Pdu::Complex(ComplexAck {
+            invoke_id: id,
+            service: ComplexAckService::ReadProperty(Default::default()),
+        }),
+        Header::Segment { id, sequence, window } => Pdu::Segment(SegmentAck {
+            invoke_id: id,
+            sequence_num: sequence,
+            proposed_window_size: window,
+        }),
     }
 }

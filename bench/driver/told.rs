@@ -74,7 +74,9 @@ fn fields(value: &ApplicationDataValue, buf: &[u8]) -> [u64; 5] {
 pub fn header((answer, next): (Result<Pdu, Error>, usize)) -> Numbers {
     accepted(answer, |pdu| {
         let [kind, a, b, c, d] = match pdu {
-            Pdu::Request(pdu) => [0, pdu.max_segments as u8 >> 4, pdu.max_adpu as u8, pdu.invoke_id, 12],
+            Pdu::Request(pdu) => {
+                [0, pdu.max_segments as u8 >> 4, pdu.max_adpu as u8, pdu.invoke_id, 12]
+            }
             Pdu::Simple(ack) => [2, ack.invoke_id, ack.service_choice as u8, 0, 0],
             Pdu::Complex(ack) => [3, ack.invoke_id, 12, 0, 0],
             Pdu::Segment(ack) => [4, ack.invoke_id, ack.sequence_num, ack.proposed_window_size, 0],

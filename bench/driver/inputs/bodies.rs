@@ -18,7 +18,9 @@ pub fn all() -> Vec<Input> {
         ("other-number", "bodyfor 2 65535 10 30010c0c0080000519553e44429000003f"),
     ];
     let mut inputs: Vec<Input> = buffers.iter().map(body).collect();
-    inputs.extend(expected.map(|(name, line)| input("body-for-tag", name, Beside::Same, line.to_string())));
+    inputs.extend(
+        expected.map(|(name, line)| input("body-for-tag", name, Beside::Same, line.to_string())),
+    );
     inputs.extend(buffers.iter().map(walk));
     inputs
 }

@@ -23,7 +23,10 @@ pub fn all() -> Vec<Input> {
             ("8", "wsig - -9223372036854775808 0 16"),
         ],
     ));
-    inputs.extend(same("enumerated-write", &[("1", "wenum - 3 0 16"), ("context-1", "wenum 1 85 0 16")]));
+    inputs.extend(same(
+        "enumerated-write",
+        &[("1", "wenum - 3 0 16"), ("context-1", "wenum 1 85 0 16")],
+    ));
     inputs.extend(same("boolean-write", &[("context", "wbool 2 1 0 16")]));
     inputs
 }

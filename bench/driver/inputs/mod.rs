@@ -15,9 +15,9 @@ pub enum Beside {
     Same,
     // Row (a) of docs/DIFFERENCES.md: the marker of a tag's length is its low byte.
     Marker,
-    // It panics where the port refuses.
+    // It panics where the port refuses, as 01 read a second time (oracle/reference) does.
     Panics,
-    // It has no such call, or a stand-in answers.
+    // It has no such call, or a stand-in answers; 01 read a second time does.
     Alone,
 }
 
@@ -47,6 +47,7 @@ fn same(operation: &'static str, rows: &[(&str, &str)]) -> Vec<Input> {
 
 // All inputs, operation by operation.
 pub fn all() -> Vec<Input> {
-    let parts = [tags::all(), integers::all(), bodies::all(), values::all(), texts::all(), headers::all()];
+    let parts =
+        [tags::all(), integers::all(), bodies::all(), values::all(), texts::all(), headers::all()];
     parts.into_iter().flatten().collect()
 }

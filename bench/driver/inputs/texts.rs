@@ -15,6 +15,8 @@ pub fn all() -> Vec<Input> {
     }
     texts.push(("broken-1476".to_string(), broken(plain_text(1_476))));
     texts.push(("broken-first".to_string(), "ff41424344".to_string()));
-    let utf8 = |(name, text): (String, String)| input("utf8", &name, Beside::Same, format!("utf8 0 {text}"));
+    let utf8 = |(name, text): (String, String)| {
+        input("utf8", &name, Beside::Same, format!("utf8 0 {text}"))
+    };
     texts.into_iter().map(utf8).collect()
 }

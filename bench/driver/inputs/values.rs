@@ -43,14 +43,23 @@ fn long_reads() -> Vec<Input> {
     for size in [1_476, 65_535] {
         let content = size - 5;
         let rows = [
-            ("text-plain", format!("value 0 {}", valued('7', format!("00{}", plain_text(content))))),
-            ("text-mixed", format!("value 0 {}", valued('7', format!("00{}", mixed_text(content))))),
-            ("text-broken", format!("value 0 {}", valued('7', format!("00{}", broken(plain_text(content)))))),
+            (
+                "text-plain",
+                format!("value 0 {}", valued('7', format!("00{}", plain_text(content)))),
+            ),
+            (
+                "text-mixed",
+                format!("value 0 {}", valued('7', format!("00{}", mixed_text(content)))),
+            ),
+            (
+                "text-broken",
+                format!("value 0 {}", valued('7', format!("00{}", broken(plain_text(content))))),
+            ),
             ("octets", format!("value 0 {}", valued('6', plain_text(content + 1)))),
         ];
-        inputs.extend(
-            rows.map(|(name, line)| input("value-read", &format!("{name}-{size}"), Beside::Same, line)),
-        );
+        inputs.extend(rows.map(|(name, line)| {
+            input("value-read", &format!("{name}-{size}"), Beside::Same, line)
+        }));
     }
     inputs
 }
@@ -74,8 +83,18 @@ fn writes() -> Vec<Input> {
             ("signed-4", "wval Signed 2147483647 0 16"),
         ],
     );
-    inputs.push(input("value-write", "object-id", Beside::Alone, "wval ObjectId 2 5 0 16".to_string()));
-    inputs.push(input("value-write", "no-room", Beside::Panics, "wval Real 42900000 0 4".to_string()));
+    inputs.push(input(
+        "value-write",
+        "object-id",
+        Beside::Alone,
+        "wval ObjectId 2 5 0 16".to_string(),
+    ));
+    inputs.push(input(
+        "value-write",
+        "no-room",
+        Beside::Panics,
+        "wval Real 42900000 0 4".to_string(),
+    ));
     inputs
 }
 
@@ -88,9 +107,9 @@ fn long_writes() -> Vec<Input> {
             ("text-mixed", format!("wval Text {} 0 {size}", mixed_text(content))),
             ("octets", format!("wval Octets {} 0 {size}", plain_text(content + 1))),
         ];
-        inputs.extend(
-            rows.map(|(name, line)| input("value-write", &format!("{name}-{size}"), Beside::Marker, line)),
-        );
+        inputs.extend(rows.map(|(name, line)| {
+            input("value-write", &format!("{name}-{size}"), Beside::Marker, line)
+        }));
     }
     inputs
 }

@@ -1,0 +1,47 @@
+// Requests as the numbers that the archive takes.
+use protocol::{Class, Header, TagName, Value};
+
+pub fn named(name: TagName) -> (u8, u8) {
+    let class = match name.class {
+        Class::Application => 1,
+        Class::Context => 2,
+        Class::Opening => 3,
+        Class::Closing => 4,
+    };
+    (class, name.number)
+}
+
+// The application tag of the integer's kind, or a context tag.
+pub fn under(context: Option<u8>) -> (u8, u8) {
+    context.map_or((1, 0), |number| (2, number))
+}
+
+// A value's case, its fields and its content.
+pub fn value_fields(value: &Value) -> (u8, [u64; 4], &[u8]) {
+    let one = |a: u64| [a, 0, 0, 0];
+    match *value {
+        Value::Boolean(value) => (1, one(value.into()), &[]),
+        Value::Real(bits) => (2, one(bits.into()), &[]),
+        Value::Double(bits) => (3, one(bits), &[]),
+        Value::Date { year, rest: [b, c, d] } => {
+            (4, [year.into(), b.into(), c.into(), d.into()], &[])
+        }
+        Value::Time(parts) => (5, parts.map(u64::from), &[]),
+        Value::ObjectId { kind, instance } => (6, [kind.into(), instance.into(), 0, 0], &[]),
+        Value::Text(ref text) => (7, one(0), text),
+        Value::Octets(ref octets) => (8, one(0), octets),
+        Value::Bits(unused, ref bits) => (9, one(unused.into()), bits),
+        Value::Enumerated(value) => (10, one(value.into()), &[]),
+        Value::Unsigned(value) => (11, one(value), &[]),
+        Value::Signed(value) => (12, one(value as u64), &[]),
+    }
+}
+
+pub fn header_fields(header: Header) -> [u8; 5] {
+    match header {
+        Header::Request { segments, size, id, choice } => [0, segments, size, id, choice],
+        Header::Simple { id, choice } => [2, id, choice, 0, 0],
+        Header::Complex { id, choice } => [3, id, choice, 0, 0],
+        Header::Segment { id, sequence, window } => [4, id, sequence, window, 0],
+    }
+}
