@@ -8,6 +8,7 @@ use crate::reading::SliceRead;
 use crate::reading::UnsignedRead;
 use crate::reading::read_slice;
 use crate::reading::whole;
+use crate::reading::whole_at_once;
 use types::Refusal;
 
 // A signed number and the place after it.
@@ -44,7 +45,7 @@ pub fn decode_unsigned(len: u32, buf: &[u8], place: usize) -> UnsignedRead
             start,
             len: n,
             next,
-        } => UnsignedRead::Unsigned(whole(buf, start, n as usize), next),
+        } => UnsignedRead::Unsigned(whole_at_once(buf, start, n as usize), next),
         SliceRead::Refused(r) => UnsignedRead::Refused(r),
     }
 }

@@ -37,13 +37,13 @@ pub fn read_byte(buf: &[u8], place: usize) -> ByteRead
     if 65535 < buf.len() {
         return ByteRead::Refused(Refusal::BufferTooLong(buf.len()));
     }
+    if place < buf.len() {
+        return ByteRead::Byte(buf[place], place + 1);
+    }
     if buf.len() < place {
         return ByteRead::Refused(Refusal::PlacePastEnd(place));
     }
-    if buf.len() <= place {
-        return ByteRead::Refused(Refusal::BytesRunOut(buf.len()));
-    }
-    ByteRead::Byte(buf[place], place + 1)
+    ByteRead::Refused(Refusal::BytesRunOut(buf.len()))
 }
 
 // Where the bytes of a given number lie from a place on.
@@ -142,4 +142,16 @@ pub(crate) fn whole(buf: &[u8], start: usize, count: usize) -> u64
         done += 1;
     }
     value
+}
+
+// The same, where eight bytes are read as one, since their count is known.
+pub(crate) fn whole_at_once(buf: &[u8], start: usize, count: usize) -> u64
+    requires { ⌜ (count ≤ 8) × (start + count ≤ length (now buf)) ⌝ }
+    ensures { λ r. ⌜ r ≡ unsignedValue (take count (drop start (now (buf .entry)))) ⌝ }
+{
+    if count == 8 {
+        whole(buf, start, 8)
+    } else {
+        whole(buf, start, count)
+    }
 }

@@ -1,6 +1,7 @@
 // Tags read at a place of a buffer, and what is expected of them.
 ghost use mathlib.Core.Path.{_≡_};
-ghost use Prim.Native.Nat.{_<_};
+ghost use Prim.Native.Nat.{_≤_, _<_};
+ghost use lib.ListN.{length};
 ghost use Rattle.types.specs.Tag.{applicationOf, numberOf, tagOf};
 ghost use Rattle.types.specs.Answer.{paperOutcome};
 ghost use Rattle.numbers.specs.Reading.{paperWord};
@@ -77,6 +78,7 @@ pub fn expect_number(tag: Tag, number: TagNumber) -> Outcome
 
 // The tag whose first byte is known.
 fn tag_after(first: u8, buf: &[u8], place: usize) -> TagRead
+    requires { ⌜ (length (now buf) ≤ 65535) × (place ≤ length (now buf)) ⌝ }
     ensures { λ r. ⌜ paperTag r ≡ tagAfter first (now (buf .entry)) place ⌝ }
 {
     match number_after(first, buf, place) {
@@ -117,6 +119,7 @@ fn number_after(first: u8, buf: &[u8], place: usize) -> NumberRead
 
 // The value that a tag's low bits tell, with the bytes after its number where it is long.
 fn value_after(low: u8, buf: &[u8], place: usize) -> WordRead
+    requires { ⌜ (length (now buf) ≤ 65535) × (place ≤ length (now buf)) ⌝ }
     ensures { λ r. ⌜ paperWord r ≡ valueFrom low (now (buf .entry)) place ⌝ }
 {
     if low < 5 {
@@ -125,18 +128,18 @@ fn value_after(low: u8, buf: &[u8], place: usize) -> WordRead
     if low != 5 {
         return WordRead::Word(0, place);
     }
-    match numbers::read_byte(buf, place) {
-        ByteRead::Byte(value, next) => {
-            if value == 254 {
-                return numbers::read_two_bytes(buf, next);
-            }
-            if value == 255 {
-                return numbers::read_four_bytes(buf, next);
-            }
-            WordRead::Word(value as u32, next)
-        }
-        ByteRead::Refused(r) => WordRead::Refused(r),
+    if buf.len() <= place {
+        return WordRead::Refused(Refusal::BytesRunOut(buf.len()));
     }
+    let value = buf[place];
+    let next = place + 1;
+    if value == 254 {
+        return numbers::read_two_bytes(buf, next);
+    }
+    if value == 255 {
+        return numbers::read_four_bytes(buf, next);
+    }
+    WordRead::Word(value as u32, next)
 }
 
 // The application tag's name for a number below 16.

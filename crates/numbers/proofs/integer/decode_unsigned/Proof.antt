@@ -21,22 +21,22 @@ content-requires c κs = search needs
 enum-known-start : tie.Need-enum-known-start
 enum-known-start c = search needs
 
-cast-whole : tie.Need-cast-whole
-cast-whole c = search needs
+cast-whole-at-once : tie.Need-cast-whole-at-once
+cast-whole-at-once c = search needs
 
-whole-requires : tie.Need-whole-requires
-whole-requires c κs = let h = held (c .before) in omega arith
+whole-at-once-requires : tie.Need-whole-at-once-requires
+whole-at-once-requires c κs = let h = held (c .before) in omega arith
 
 enum-known-r : tie.Need-enum-known-r
 enum-known-r c = search needs
 
 returns : tie.Need-returns
 unfolding unsignedFrom
-returns c = simp (answered (c .before .before), c .whole .ensures)
+returns c = simp (answered (c .before .before), c .whole-at-once .ensures)
 
 returns-2 : tie.Need-returns-2
 unfolding unsignedFrom
 returns-2 c = simp (sym (c .before .before .before .content .ensures) ∙ ap paperSlice (c .before .r .given .1))
 
 pub decode-unsigned-spec : {M : Type 1} → statement M
-decode-unsigned-spec = tie.close (tie.spec content-requires enum-known-start cast-whole whole-requires enum-known-r returns returns-2)
+decode-unsigned-spec = tie.close (tie.spec content-requires enum-known-start cast-whole-at-once whole-at-once-requires enum-known-r returns returns-2)

@@ -2,7 +2,9 @@
 -- Assumes nothing.
 use borrow.Author.Needs.{needs}
 use mathlib.Core.Path.{sym, ap, _∙_}
+use native.Mathlib.Omega.{arith}
 use Rattle.numbers.specs.Reading.{paperByte}
+use Rattle.numbers.proofs.Found.{byte-found}
 use Rattle.tags.specs.Reading.{tagFrom}
 use Rattle.tags.proofs.reading.decode.Statement.{statement}
 use Rattle.tags.proofs.reading.decode.Tie as tie
@@ -14,7 +16,7 @@ enum-known-first : tie.Need-enum-known-first
 enum-known-first c = search needs
 
 tag-after-requires : tie.Need-tag-after-requires
-tag-after-requires c κs = search needs
+tag-after-requires c κs = let a = c .before .before .before .before .before .args in let f = byte-found (a .buf .now) (a .place) _ _ (sym (c .before .before .before .read-byte .ensures) ∙ ap paperByte (c .before .first .given .1)) in (f .small, omega (arith, f .inside, f .ends))
 
 enum-known-r : tie.Need-enum-known-r
 enum-known-r c = search needs

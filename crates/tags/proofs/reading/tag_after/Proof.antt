@@ -4,6 +4,7 @@ use borrow.Author.Needs.{needs}
 use mathlib.Core.Path.{sym, ap, _∙_}
 use Rattle.numbers.specs.Reading.{paperWord}
 use Rattle.tags.specs.Reading.{tagAfter, paperNumber}
+use Rattle.tags.proofs.Exactly.{number-ends}
 use Rattle.tags.proofs.reading.tag_after.Statement.{statement}
 use Rattle.tags.proofs.reading.tag_after.Tie as tie
 
@@ -14,7 +15,7 @@ enum-known-number : tie.Need-enum-known-number
 enum-known-number c = search needs
 
 value-after-requires : tie.Need-value-after-requires
-value-after-requires c κs = search needs
+value-after-requires c κs = let a = c .before .before .before .before .before .args in let p = c .before .before .before .before .before .pre in (p .0, number-ends (a .first) (a .buf .now) (a .place) _ _ (sym (c .before .before .before .number-after .ensures) ∙ ap paperNumber (c .before .number .given .1)) (p .1) .1)
 
 enum-known-value : tie.Need-enum-known-value
 enum-known-value c = search needs

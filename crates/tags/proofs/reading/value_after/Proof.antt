@@ -1,9 +1,13 @@
 -- `tags::value_after` meets its contract: at each return the tests that led there say which case of `valueFrom` holds.
 -- Assumes nothing.
 use borrow.Author.Needs.{needs}
-use mathlib.Core.Path.{sym, ap, _∙_}
-use borrow.Author.Tests.{lt-ltb, le-ltb, eq-eqb, ne-eqb}
-use Rattle.numbers.specs.Reading.{paperByte}
+use mathlib.Core.Path.{_≡_}
+use Prim.Native.Nat.{_+_}
+use lib.ListN.{length, getD}
+use native.Mathlib.Omega.{arith}
+use borrow.Author.Tests.{lt-ltb, le-ltb, le-leb, lt-leb, eq-eqb, ne-eqb}
+use Rattle.types.specs.Answer.{accepted}
+use Rattle.numbers.specs.Reading.{byteFrom}
 use Rattle.tags.specs.Reading.{valueFrom}
 use Rattle.tags.proofs.reading.value_after.Statement.{statement}
 use Rattle.tags.proofs.reading.value_after.Tie as tie
@@ -16,39 +20,41 @@ returns-2 : tie.Need-returns-2
 unfolding valueFrom
 returns-2 c = simp (le-ltb _ _ (c .before .if1 .left), ne-eqb _ _ (c .if2 .taken))
 
-read-byte-requires : tie.Need-read-byte-requires
-read-byte-requires c κs = search needs
+returns-3 : tie.Need-returns-3
+unfolding valueFrom byteFrom
+returns-3 c = let a = c .before .before .before .before .args in let p = c .before .before .before .before .pre in simp (le-ltb _ _ (c .before .before .if1 .left), eq-eqb _ _ (c .before .if2 .left), le-ltb 65535 (length (a .buf .now)) (p .0), le-ltb (length (a .buf .now)) (a .place) (p .1), le-leb _ _ (c .if3 .taken))
 
-enum-known-value : tie.Need-enum-known-value
-enum-known-value c = search needs
+shared-slice-read-value : tie.Need-shared-slice-read-value
+shared-slice-read-value c = search needs
+
+add-next : tie.Need-add-next
+add-next c = search needs
+
+-- the byte is there
+byte : (c : tie.After-shared-slice-known2) → (let a = c .before .before .before .before .before .args in byteFrom (a .buf .now) (a .place) ≡ accepted (getD (a .buf .now) (a .place) 0) (a .place + 1))
+unfolding byteFrom
+byte c = let a = c .before .before .before .before .before .args in let p = c .before .before .before .before .before .pre in simp (le-ltb 65535 (length (a .buf .now)) (p .0), le-ltb (length (a .buf .now)) (a .place) (p .1), lt-leb _ _ (c .before .if3 .left))
 
 read-two-bytes-requires : tie.Need-read-two-bytes-requires
 read-two-bytes-requires c κs = search needs
 
-returns-3 : tie.Need-returns-3
+returns-4 : tie.Need-returns-4
 unfolding valueFrom
-returns-3 c = simp (le-ltb _ _ (c .before .before .before .before .before .before .before .if1 .left), eq-eqb _ _ (c .before .before .before .before .before .before .if2 .left), sym (c .before .before .before .before .before .read-byte .ensures) ∙ ap paperByte (c .before .before .before .value .given .1), eq-eqb _ _ (c .before .if3 .taken)) (c .read-two-bytes .ensures)
+returns-4 c = simp (le-ltb _ _ (c .before .before .before .before .before .if1 .left), eq-eqb _ _ (c .before .before .before .before .if2 .left), byte (c .before .before), eq-eqb _ _ (c .before .if4 .taken)) (c .read-two-bytes .ensures)
 
 read-four-bytes-requires : tie.Need-read-four-bytes-requires
 read-four-bytes-requires c κs = search needs
 
-returns-4 : tie.Need-returns-4
-unfolding valueFrom
-returns-4 c = simp (le-ltb _ _ (c .before .before .before .before .before .before .before .before .if1 .left), eq-eqb _ _ (c .before .before .before .before .before .before .before .if2 .left), sym (c .before .before .before .before .before .before .read-byte .ensures) ∙ ap paperByte (c .before .before .before .before .value .given .1), ne-eqb _ _ (c .before .before .if3 .left), eq-eqb _ _ (c .before .if4 .taken)) (c .read-four-bytes .ensures)
-
-cast-t12 : tie.Need-cast-t12
-cast-t12 c = search needs
-
-enum-known-r : tie.Need-enum-known-r
-enum-known-r c = search needs
-
 returns-5 : tie.Need-returns-5
 unfolding valueFrom
-returns-5 c = simp (le-ltb _ _ (c .before .before .before .before .before .before .before .if1 .left), eq-eqb _ _ (c .before .before .before .before .before .before .if2 .left), sym (c .before .before .before .before .before .read-byte .ensures) ∙ ap paperByte (c .before .before .before .value .given .1), ne-eqb _ _ (c .before .if3 .left), ne-eqb _ _ (c .if4 .left))
+returns-5 c = simp (le-ltb _ _ (c .before .before .before .before .before .before .if1 .left), eq-eqb _ _ (c .before .before .before .before .before .if2 .left), byte (c .before .before .before), ne-eqb _ _ (c .before .before .if4 .left), eq-eqb _ _ (c .before .if5 .taken)) (c .read-four-bytes .ensures)
+
+cast-t13 : tie.Need-cast-t13
+cast-t13 c = omega (arith, c .before .before .shared-slice-known2 .given (c .before .before .before .before .before .before .before .args .place))
 
 returns-6 : tie.Need-returns-6
 unfolding valueFrom
-returns-6 c = simp (le-ltb _ _ (c .before .before .before .before .before .if1 .left), eq-eqb _ _ (c .before .before .before .before .if2 .left), sym (c .before .before .before .read-byte .ensures) ∙ ap paperByte (c .before .r .given .1))
+returns-6 c = simp (le-ltb _ _ (c .before .before .before .before .before .if1 .left), eq-eqb _ _ (c .before .before .before .before .if2 .left), byte (c .before .before), ne-eqb _ _ (c .before .if4 .left), ne-eqb _ _ (c .if5 .left))
 
 pub value-after-spec : {M : Type 1} → statement M
-value-after-spec = tie.close (tie.spec returns returns-2 read-byte-requires enum-known-value read-two-bytes-requires returns-3 read-four-bytes-requires returns-4 cast-t12 enum-known-r returns-5 returns-6)
+value-after-spec = tie.close (tie.spec returns returns-2 returns-3 shared-slice-read-value add-next read-two-bytes-requires returns-4 read-four-bytes-requires returns-5 cast-t13 returns-6)
