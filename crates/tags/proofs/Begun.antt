@@ -5,15 +5,17 @@ use mathlib.Core.Bool.{Bool, true, false}
 use Prim.Native.Nat.{ℕ, _+_, _-_, _≤_, _<_}
 use native.Mathlib.Nat.{add-zero}
 use native.Mathlib.Omega.{arith}
-use mathlib.Core.List.{List}
-use lib.ListN.{length}
+use mathlib.Core.List.{List, [], _∷_}
+use lib.ListN.{length, set}
 use borrow.Author.Tests.{le-ltb}
 use Rattle.types.specs.Tag.{Tag}
 use Rattle.types.specs.Refusal.{Carried}
 use Rattle.types.specs.Answer.{Answer, accepted, refused}
 use Rattle.types.specs.Writing.{Left, left, over, Writable, can, settled, writeAnswer, writing}
 use Rattle.tags.specs.Writing.{headerBytes, hasNoValue, writableTag, begun, tagTo, tagBefore}
+use Rattle.tags.specs.Held.{oneBefore}
 use Rattle.numbers.proofs.Inside.{Room, write-room}
+use Rattle.numbers.proofs.Over.{one-replaced}
 use Rattle.tags.proofs.Held.{header-short}
 
 -- where all tests pass, writing the header's bytes is what is asked
@@ -36,3 +38,15 @@ unfolding tagBefore tagTo writing
 begun-alone t xs place =
     rw (add-zero (length (headerBytes t)))
     (alone (headerBytes t) xs place (writeAnswer 0 (writableTag t) (length (headerBytes t)) xs place) (write-room 0 (writableTag t) (length (headerBytes t)) xs place))
+
+-- a tag of one byte, which can be written
+pub short-before : (t : Tag) (b content : ℕ) (xs : List ℕ) (place : ℕ) → headerBytes t ≡ b ∷ [] → hasNoValue t ≡ true → oneBefore b content xs place ≡ tagBefore t content xs place
+unfolding tagBefore oneBefore
+short-before t b content xs place e f = rw (e, f) refl
+
+-- where there is room, one byte is stored
+pub one-stored : (b content : ℕ) (xs : List ℕ) (place : ℕ) → length xs ≤ 65535 → place ≤ length xs → place + (1 + content) ≤ length xs → left (accepted tt (place + 1)) (set xs place b) ≡ oneBefore b content xs place
+unfolding oneBefore writeAnswer
+one-stored b content xs place small inside room =
+    let h : place < length xs = omega arith in
+    simp (le-ltb 65535 (length xs) small, le-ltb (length xs) place inside, le-ltb (length xs) (place + (1 + content)) room) (ap (left (accepted tt (place + 1))) (one-replaced xs place b h))

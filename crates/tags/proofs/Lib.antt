@@ -1,4 +1,5 @@
 pub mod Held
+pub mod OneByte
 pub mod Begun
 pub mod Item
 pub mod Exactly

@@ -1,8 +1,13 @@
 -- The program's struct for a header, and what it holds.
 -- Assumes nothing.
+use mathlib.Core.Path.{_≡_}
+use mathlib.Core.Bool.{true}
 use Prim.Native.Nat.{ℕ, zero, suc, _+_}
 use mathlib.Core.List.{List, [], _∷_}
-use lib.ListN.{length, set}
+use lib.ListN.{length, getD, set}
+use Rattle.types.specs.Tag.{Tag}
+use Rattle.types.specs.Writing.{Left, can, writeAnswer}
+use Rattle.tags.specs.Writing.{headerBytes, hasNoValue, begun}
 use Rattle.tags.specs.declared.header.Header.{Header}
 
 -- bytes, filled up with zeros to n
@@ -23,3 +28,15 @@ pushed h b = record { bytes = set (h .bytes) (h .len) b; len = h .len + 1 }
 abbrev pub pushes : Header → List ℕ → Header
 pushes h [] = h
 pushes h (b ∷ bs) = pushes (pushed h b) bs
+
+-- where one byte is held, it is these bytes
+abbrev pub OneOf : Header → List ℕ → Type 0
+OneOf h bytes = h .len ≡ 1 → bytes ≡ getD (h .bytes) 0 0 ∷ []
+
+-- and the tag's, which can be written
+abbrev pub OneByte : Header → Tag → Type 0
+OneByte h t = h .len ≡ 1 → (headerBytes t ≡ getD (h .bytes) 0 0 ∷ []) × (hasNoValue t ≡ true)
+
+-- what writing one byte answers and leaves, where so many bytes are to follow it
+unfoldable pub oneBefore : ℕ → ℕ → List ℕ → ℕ → Left
+oneBefore b content xs place = begun (b ∷ []) xs place (writeAnswer 0 can (1 + content) xs place)

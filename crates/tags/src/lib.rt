@@ -3,6 +3,7 @@ mod block;
 mod header;
 mod integer;
 mod reading;
+mod short;
 mod writing;
 
 pub use block::encode_closing_tag;

@@ -4,6 +4,9 @@ ghost use Rattle.types.specs.Tag.{tagOf};
 ghost use Rattle.types.specs.Writing.{paperWritten, left};
 ghost use Rattle.tags.specs.Writing.{hasNoValue, tagTo, tagBefore};
 use crate::header::built;
+use crate::short::begin_short;
+use crate::short::built_plain;
+use crate::short::built_short;
 use types::Refusal;
 use types::Tag;
 use types::TagNumber;
@@ -13,11 +16,34 @@ use types::Written;
 pub fn encode(tag: Tag, buf: &mut [u8], place: usize) -> Written
     ensures { λ r. ⌜ left (paperWritten r) (now (buf .exit)) ≡ tagTo (tagOf tag) (now (buf .entry)) place ⌝ }
 {
-    begin(tag, 0, buf, place)
+    let header = built_short(tag);
+    let len = header.len;
+    if len == 1 {
+        return begin_short(header, 0, buf, place);
+    }
+    match begin_long(tag, 0, buf, place) {
+        Written::To(next) => Written::To(next),
+        Written::Refused(r) => Written::Refused(r),
+    }
 }
 
 // Writes a tag where there is room for it and for as many bytes of content, which are to follow.
 pub fn begin(tag: Tag, content: u32, buf: &mut [u8], place: usize) -> Written
+    ensures { λ r. ⌜ left (paperWritten r) (now (buf .exit)) ≡ tagBefore (tagOf tag) content (now (buf .entry)) place ⌝ }
+{
+    let header = built_plain(tag);
+    let len = header.len;
+    if len == 1 {
+        return begin_short(header, content, buf, place);
+    }
+    match begin_long(tag, content, buf, place) {
+        Written::To(next) => Written::To(next),
+        Written::Refused(r) => Written::Refused(r),
+    }
+}
+
+// Writes a tag of any length.
+fn begin_long(tag: Tag, content: u32, buf: &mut [u8], place: usize) -> Written
     ensures { λ r. ⌜ left (paperWritten r) (now (buf .exit)) ≡ tagBefore (tagOf tag) content (now (buf .entry)) place ⌝ }
 {
     if 65535 < buf.len() {

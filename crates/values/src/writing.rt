@@ -197,11 +197,12 @@ fn id_number(object_type: u16, instance: u32) -> u32
 fn boolean(value: bool, buf: &mut [u8], place: usize) -> Written
     ensures { λ r. ⌜ left (paperWritten r) (now (buf .exit)) ≡ tagTo (tag (application 1) (booleanByte value)) (now (buf .entry)) place ⌝ }
 {
-    tags::encode(
+    tags::begin(
         Tag {
             number: TagNumber::Application(ApplicationTagNumber::Boolean),
             value: boolean_value(value),
         },
+        0,
         buf,
         place,
     )
