@@ -1,37 +1,34 @@
--- A header's bytes, built apart and copied out, are the header written.
+-- The bytes of a header, stored one behind the other, are the header written.
 -- Assumes nothing.
-use mathlib.Core.Path.{_≡_, _∙_, ap, sym}
-use Prim.Native.Nat.{ℕ, _-_, _≤_}
+use mathlib.Core.Path.{_≡_, refl, _∙_, ap, sym}
+use Prim.Native.Nat.{ℕ, suc, _+_, _≤_}
 use native.Mathlib.Omega.{arith}
-use mathlib.Core.List.{List, [], _∷_}
-use lib.ListN.{length, take}
+use mathlib.Core.List.{List, [], _∷_, _++_, append-assoc}
+use lib.ListN.{length, take, drop, set}
+use lib.Seq.{sets, sets-eq}
 use borrow.Author.Tests.{le-ltb}
-use Rattle.types.specs.Writing.{Writable, can, writeAnswer, writing}
-use Rattle.headers.specs.Header.{Value, nibbles, number, choice, Header, headerOf}
-use Rattle.headers.specs.Writing.{valueWritable, writable, headerBytes, headerTo, Holds}
-use Rattle.headers.specs.declared.header.Header as program
-use Rattle.headers.specs.declared.header.Header.the-variants as h
-use Rattle.headers.specs.declared.writing.HeaderBytes.{HeaderBytes}
-use Rattle.headers.proofs.Writable.{both-parts, FourBits, four-bits}
+use Rattle.types.specs.Answer.{accepted}
+use Rattle.types.specs.Writing.{Left, left, over, can, writeAnswer, writing}
 
--- what is lent and not too long is written as if it were the writer's own
-own : (lent : ℕ) → lent ≤ 65535 → (bytes xs : List ℕ) (place : ℕ) → writing lent can bytes xs place ≡ writing 0 can bytes xs place
+-- bytes stored one behind the other, where there is room
+stored : (bytes xs : List ℕ) (place : ℕ) → length xs ≤ 65535 → place + length bytes ≤ length xs → left (accepted tt (place + length bytes)) (sets xs place bytes) ≡ writing 0 can bytes xs place
 unfolding writing writeAnswer
-own lent h bytes xs place = simp (le-ltb 65535 lent h)
+stored bytes xs place small room =
+    let inside : place ≤ length xs = omega arith in
+    simp (le-ltb 65535 (length xs) small, le-ltb (length xs) place inside, le-ltb (length xs) (place + length bytes) room)
+    (ap (left (accepted tt (place + length bytes))) (sets-eq bytes xs place room ∙ append-assoc (take place xs) bytes (drop (place + length bytes) xs)))
 
--- the bytes that the struct holds, copied out
-pub copied : (h : Header) (held : HeaderBytes) → Holds held (headerBytes h) → can ≡ writable (h .fields) → (xs : List ℕ) (place : ℕ)
-    → (let src = take (held .len - 0) (held .bytes) in writing (length src) can src xs place ≡ headerTo h xs place)
-unfolding headerTo
-copied h held holds can-be xs place =
-    let z : held .len - 0 ≡ held .len = omega arith in
-    let e : take (held .len - 0) (held .bytes) ≡ headerBytes h = ap (λ (k : ℕ). take k (held .bytes)) z ∙ holds .first in
-    ap (λ (l : List ℕ). writing (length l) can l xs place) e
-    ∙ own (length (headerBytes h)) (omega (arith, holds .most, holds .counted)) (headerBytes h) xs place
-    ∙ ap (λ (w : Writable). writing 0 w (headerBytes h) xs place) can-be
+pub three-stored : (a b c : ℕ) (xs : List ℕ) (place : ℕ) → length xs ≤ 65535 → place + 3 ≤ length xs
+    → left (accepted tt (place + 3)) (set (set (set xs place a) (place + 1) b) (place + 2) c) ≡ writing 0 can (a ∷ b ∷ c ∷ []) xs place
+three-stored a b c xs place small room =
+    let one : place + 1 ≡ suc place = omega arith in
+    let two : place + 2 ≡ suc (suc place) = omega arith in
+    rw (one, two) (stored (a ∷ b ∷ c ∷ []) xs place small room)
 
--- the nibbles of a request that can be written have four bits
-pub request-short : {x : program.Header} {a b id c : ℕ} → x ≡ h.ConfirmedRequest a b id c → writable (headerOf x .fields) ≡ can → FourBits a b
-request-short {a = a} {b = b} {id = id} {c = c} e w =
-    let vs : List Value = number id ∷ choice c ∷ [] in
-    four-bits a b (both-parts (valueWritable (nibbles a b)) (writable vs) (sym (ap (λ (y : program.Header). writable (headerOf y .fields)) e) ∙ w) .0)
+pub four-stored : (a b c d : ℕ) (xs : List ℕ) (place : ℕ) → length xs ≤ 65535 → place + 4 ≤ length xs
+    → left (accepted tt (place + 4)) (set (set (set (set xs place a) (place + 1) b) (place + 2) c) (place + 3) d) ≡ writing 0 can (a ∷ b ∷ c ∷ d ∷ []) xs place
+four-stored a b c d xs place small room =
+    let one : place + 1 ≡ suc place = omega arith in
+    let two : place + 2 ≡ suc (suc place) = omega arith in
+    let three : place + 3 ≡ suc (suc (suc place)) = omega arith in
+    rw (one, two, three) (stored (a ∷ b ∷ c ∷ d ∷ []) xs place small room)

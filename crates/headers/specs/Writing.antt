@@ -1,17 +1,12 @@
 -- Writing a header (ASHRAE 135, 20.1, as 01 restates it): one rule for the bytes of every row.
 -- Assumes nothing.
-use Prim.Native.Nat.{ℕ, _+_, _*_, _≤_}
-use mathlib.Core.Path.{_≡_}
+use Prim.Native.Nat.{ℕ, _+_, _*_}
 use mathlib.Core.List.{List, [], _∷_, map}
-use lib.ListN.{length, take}
 use lib.Dec.{ltb}
 use Rattle.types.specs.Choice.{if}
-use Rattle.types.specs.Refusal.{amount, table}
+use Rattle.types.specs.Refusal.{amount}
 use Rattle.types.specs.Writing.{Left, Writable, can, cannot, writing}
-use Rattle.types.specs.declared.outcome.Outcome.{Outcome}
-use Rattle.types.specs.declared.outcome.Outcome.the-variants as o
 use Rattle.headers.specs.Header.{Value, nibbles, number, choice, Header, rowOf}
-use Rattle.headers.specs.declared.writing.HeaderBytes.{HeaderBytes}
 
 -- the byte that carries a value
 abbrev pub byteOf : Value → ℕ
@@ -44,15 +39,3 @@ writable (v ∷ vs) = both (valueWritable v) (writable vs)
 -- what writing a header at a place of a buffer answers and leaves
 unfoldable pub headerTo : Header → List ℕ → ℕ → Left
 headerTo h xs place = writing 0 (writable (h .fields)) (headerBytes h) xs place
-
--- a check of the program, as whether a header can be written
-abbrev pub paperWritable : Outcome → Writable
-paperWritable o.Passed = can
-paperWritable (o.Refused r) = cannot (table r .number) (table r .carries)
-
--- the program's struct holds these bytes, four at the most
-pub record Holds (held : HeaderBytes) (bytes : List ℕ) : Type 0 where
-  pub array : length (held .bytes) ≡ 4
-  pub most : held .len ≤ 4
-  pub counted : length bytes ≡ held .len
-  pub first : take (held .len) (held .bytes) ≡ bytes
