@@ -1,5 +1,8 @@
 // What a side answered: eight numbers as bindings/c/thaolisem.h lays them out, and the buffer that was written.
 
+// The eight numbers as the archive puts them.
+pub type Numbers = [u64; 8];
+
 #[derive(Clone, PartialEq, Eq)]
 pub struct Answer {
     // None where the original does not say a number.

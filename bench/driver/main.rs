@@ -1,5 +1,6 @@
 // The port's archive and the original Rust on the same inputs: their answers compared, or one call repeated so that its instructions can be counted.
 mod answer;
+#[path = "../../bindings/rust/src/declared.rs"]
 mod archive;
 mod buffers;
 mod compare;
