@@ -1,0 +1,57 @@
+"""Wrong versions of single tokens: comparisons, constants, operators and truth values."""
+import re
+
+NEIGHBOURS = {"<": ("<=", ">"), "<=": ("<", ">="), ">": (">=", "<"), ">=": (">", "<="), "==": ("!=",), "!=": ("==",)}
+OPERATORS = {"+": "-", "-": "+", "*": "/", "/": "*", "%": "/", "<<": ">>", ">>": "<<", "&": "|", "|": "&", "+=": "-=", "-=": "+=", "&&": "||", "||": "&&"}
+
+
+def comparisons(body):
+    """Each comparison replaced by its neighbours."""
+    for index in body.range():
+        for other in NEIGHBOURS.get(body.text(index), ()):
+            yield "comparison", index, index, other
+
+
+def constants(body):
+    """Each integer plus one and minus one."""
+    for index in body.range():
+        if body.tokens[index].kind == "number" and body.text(index - 1) != ".":
+            for other in beside(body.text(index)):
+                yield "constant", index, index, other
+
+
+def beside(literal):
+    """The literals of the integers beside one, where it is an integer."""
+    parts = re.fullmatch(r"(0x[0-9A-Fa-f_]+|[0-9_]+)([iu](?:8|16|32|64|size))?", literal)
+    if not parts:
+        return []
+    value = int(parts[1].replace("_", ""), 0)
+    form = "0x{:X}" if parts[1].startswith("0x") else "{}"
+    return [form.format(other) + (parts[2] or "") for other in (value + 1, value - 1) if other >= 0]
+
+
+def operators(body):
+    """Each operator between two operands exchanged for its opposite."""
+    for index in body.range():
+        before = body.tokens[index - 1]
+        if body.text(index) in OPERATORS and index not in body.in_pattern:
+            if before.text in (")", "]") or before.kind == "number" or (before.kind == "name" and before.text not in ("return", "match", "in", "if")):
+                yield "operator", index, index, OPERATORS[body.text(index)]
+
+
+def truths(body):
+    """Each truth value, and each condition that is no comparison, negated."""
+    for index in body.range():
+        if body.text(index) in ("true", "false"):
+            yield "truth", index, index, "false" if body.text(index) == "true" else "true"
+        if body.text(index) == "if" and body.text(index + 1) != "let":
+            opening = condition_end(body, index)
+            if body.text(index + 1) == "!":
+                yield "truth", index + 1, opening - 1, body.source.written(index + 2, opening - 1)
+            elif not any(body.text(i) in NEIGHBOURS for i in range(index, opening)):
+                yield "truth", index + 1, opening - 1, "!" + body.source.written(index + 1, opening - 1)
+
+
+def condition_end(body, index):
+    """The brace that opens the block of an if."""
+    return body.ahead(index + 1, ("{",))
