@@ -77,6 +77,11 @@ class Body:
         """Whether a token is the first of a statement."""
         return self.text(index - 1) in ("{", "}", ";") and index - 1 >= self.first
 
+    def ends_operand(self, index):
+        """Whether an operand ends at a token, so that what follows is an operator or an index."""
+        token = self.tokens[index]
+        return token.text in (")", "]") or token.kind == "number" or (token.kind == "name" and token.text not in KEYWORDS)
+
     def path_ending(self, index):
         """The first token and the names of the path that ends at a token."""
         first, names = index, [self.text(index)]

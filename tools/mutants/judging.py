@@ -20,7 +20,7 @@ def blamed(errors, texts, mutants):
     found = {}
     for file, line, said in errors:
         for mutant in mutants:
-            if mutant.file == file and (not mutant.group or line in lines_of(mutant, texts[file])):
+            if mutant.file == file and (mutant.of_constant or line in lines_of(mutant, texts[file])):
                 found.setdefault(id(mutant), (mutant, said))
     return list(found.values())
 
@@ -64,7 +64,7 @@ def verdict(log, crate, where):
 
 def verdict_on(mutant, log):
     """What became of a mutant, of a function or of a constant."""
-    return verdict(log, mutant.crate, mutant.where) if mutant.group else verdict_of_constant(log, mutant.crate)
+    return verdict_of_constant(log, mutant.crate) if mutant.of_constant else verdict(log, mutant.crate, mutant.where)
 
 
 def verdict_of_constant(log, crate):

@@ -11,6 +11,8 @@ MAKERS = (
     statements.orders, statements.guards, statements.stores, statements.turns,
     operands.arguments, operands.fields, operands.elements, operands.variables, operands.constructors, operands.answers,
 )
+# The groups of constants; a function's group is its own path.
+USED, UNUSED = "used", "unused"
 
 
 @dataclass
@@ -27,6 +29,11 @@ class Mutant:
     new: str
     old_lines: str = ""
     new_lines: str = ""
+
+    @property
+    def of_constant(self):
+        """Whether a constant is changed, and not a function's body."""
+        return self.group in (USED, UNUSED)
 
     @property
     def name(self):
@@ -82,5 +89,10 @@ def mutants_of(world, crate):
         for name, first, last in source.constants:
             where = "::".join((crate,) + source.module + (name,))
             changes = [("constant", first, last, other) for other in small.beside(source.written(first, last))]
-            found += made(source, where, "", changes)
+            found += made(source, where, USED if is_used(world, crate, name) else UNUSED, changes)
     return found
+
+
+def is_used(world, crate, name):
+    """Whether a function of the crate names a constant."""
+    return any(t.text == name for s in world.of(crate) for f in s.functions for t in s.tokens[f.first : f.last])

@@ -47,8 +47,7 @@ def fields(body):
 def elements(body):
     """Two successive elements of an array exchanged."""
     for index in body.range():
-        before = body.tokens[index - 1]
-        if body.text(index) == "[" and index not in body.in_pattern and before.kind not in ("name", "number") and before.text not in (")", "]"):
+        if body.text(index) == "[" and index not in body.in_pattern and not body.ends_operand(index - 1):
             parts = split(body.tokens, body.partners, index + 1, body.partners[index] - 1)
             for one, other in zip(parts, parts[1:]):
                 yield from exchanged(body, "elements", one, other)

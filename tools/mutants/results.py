@@ -3,26 +3,23 @@ import hashlib
 
 
 class Results:
-    """The results of a crate, a file for each part that was tried."""
+    """A crate's results: a line for each mutant tried, behind a first line with the stamp of the crate's files."""
 
     def __init__(self, root, crate):
-        self.folder, self.crate = root / "target" / "mutants" / "results", crate
         files = [f for part in ("src", "specs", "proofs") for f in (root / "crates" / crate / part).rglob("*") if f.is_file()]
-        self.stamp = hashlib.sha256(b"".join(str(f.relative_to(root)).encode() + f.read_bytes() for f in sorted(files))).hexdigest()
+        texts = [str(f.relative_to(root)).encode() + f.read_bytes() for f in sorted(files)]
+        self.stamp = hashlib.sha256(b"".join(texts)).hexdigest()
+        self.path = root / "target" / "mutants" / "results" / f"{crate}.tsv"
+        self.path.parent.mkdir(parents=True, exist_ok=True)
+        if not self.path.is_file() or self.path.read_text(encoding="utf-8").partition("\n")[0] != self.stamp:
+            self.path.write_text(self.stamp + "\n")
 
-    def file(self, part):
-        """The file of a part, new, with the stamp of the crate in its first line."""
-        self.folder.mkdir(parents=True, exist_ok=True)
-        file = open(self.folder / f"{self.crate}.{part[0]}of{part[1]}.tsv", "w", encoding="utf-8")
-        print(self.stamp, file=file)
-        return file
+    def add(self, mutant, verdict, said):
+        """Notes what became of a mutant."""
+        with open(self.path, "a", encoding="utf-8") as file:
+            print(verdict, mutant.kind, *mutant.name, said, sep="\t", file=file)
 
     def known(self):
         """The verdict on each mutant tried since the crate last changed, by the mutant's name."""
-        found = {}
-        for path in sorted(self.folder.glob(f"{self.crate}.*.tsv")):
-            stamp, *lines = path.read_text(encoding="utf-8").splitlines()
-            for line in lines if stamp == self.stamp else []:
-                verdict, _kind, *name, _said = line.split("\t")
-                found[tuple(name)] = verdict
-        return found
+        lines = self.path.read_text(encoding="utf-8").splitlines()[1:]
+        return {tuple(line.split("\t")[2:5]): line.split("\t")[0] for line in lines}

@@ -1,5 +1,8 @@
-"""Rounds: mutants of functions that do not call one another, so that none hides another."""
+"""Rounds: mutants that are tried together, at most one in each proof."""
+from itertools import zip_longest
+
 from body import KEYWORDS
+from making import UNUSED, USED
 
 
 def called(source, function, names):
@@ -31,16 +34,19 @@ def reach_of(sources):
 
 
 def rounds_of(mutants, reach):
-    """The mutants in rounds: of functions that do not reach one another at most one each, and constants alone."""
-    rounds = [[mutant] for mutant in mutants if not mutant.group]
-    waiting = {}
+    """The mutants in rounds: one of each function, or of a cycle of calls; constants that functions name alone, the others together."""
+    rounds = [[mutant] for mutant in mutants if mutant.group == USED]
+    unused, waiting = {}, {}
     for mutant in mutants:
-        if mutant.group:
+        if mutant.group == UNUSED:
+            unused.setdefault(mutant.where, []).append(mutant)
+        elif mutant.group != USED:
             waiting.setdefault(mutant.group, []).append(mutant)
+    rounds += [[m for m in found if m] for found in zip_longest(*unused.values())]
     while waiting:
         chosen = []
         for group in sorted(waiting, key=lambda g: -len(waiting[g])):
-            if all(group not in reach[m.group] and m.group not in reach[group] for m in chosen):
+            if not any(group in reach[m.group] and m.group in reach[group] for m in chosen):
                 chosen.append(waiting[group].pop(0))
         waiting = {group: left for group, left in waiting.items() if left}
         rounds.append(chosen)

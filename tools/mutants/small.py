@@ -2,7 +2,8 @@
 import re
 
 NEIGHBOURS = {"<": ("<=", ">"), "<=": ("<", ">="), ">": (">=", "<"), ">=": (">", "<="), "==": ("!=",), "!=": ("==",)}
-OPERATORS = {"+": "-", "-": "+", "*": "/", "/": "*", "%": "/", "<<": ">>", ">>": "<<", "&": "|", "|": "&", "+=": "-=", "-=": "+=", "&&": "||", "||": "&&"}
+OPPOSITES = (("+", "-"), ("*", "/"), ("<<", ">>"), ("&", "|"), ("+=", "-="), ("&&", "||"))
+OPERATORS = dict(OPPOSITES) | {b: a for a, b in OPPOSITES} | {"%": "/"}
 
 
 def comparisons(body):
@@ -33,10 +34,8 @@ def beside(literal):
 def operators(body):
     """Each operator between two operands exchanged for its opposite."""
     for index in body.range():
-        before = body.tokens[index - 1]
-        if body.text(index) in OPERATORS and index not in body.in_pattern:
-            if before.text in (")", "]") or before.kind == "number" or (before.kind == "name" and before.text not in ("return", "match", "in", "if")):
-                yield "operator", index, index, OPERATORS[body.text(index)]
+        if body.text(index) in OPERATORS and index not in body.in_pattern and body.ends_operand(index - 1):
+            yield "operator", index, index, OPERATORS[body.text(index)]
 
 
 def truths(body):

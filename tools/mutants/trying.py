@@ -30,8 +30,8 @@ class Scratch:
             if (self.root / "target" / part).is_dir():
                 shutil.rmtree(self.place / "target" / part, ignore_errors=True)
                 shutil.copytree(self.root / "target" / part, self.place / "target" / part)
-        shutil.rmtree(self.logs, ignore_errors=True)
-        self.logs.mkdir(parents=True)
+        self.logs.mkdir(parents=True, exist_ok=True)
+        self.number = len(list(self.logs.iterdir()))
         log = self.run()
         shutil.rmtree(self.unchanged, ignore_errors=True)
         if self.kept.is_dir():
@@ -58,7 +58,8 @@ class Scratch:
 
     def run(self):
         """The log of one check that proves only what has changed, or nothing where it takes too long."""
-        command = subprocess.Popen(["rt", "dev", self.crate], cwd=self.place, stdout=subprocess.PIPE, stderr=subprocess.STDOUT, start_new_session=True)
+        pipes = {"stdout": subprocess.PIPE, "stderr": subprocess.STDOUT}
+        command = subprocess.Popen(["rt", "dev", self.crate], cwd=self.place, start_new_session=True, **pipes)
         try:
             said, _ = command.communicate(timeout=LONGEST)
         except subprocess.TimeoutExpired:
