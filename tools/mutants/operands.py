@@ -70,7 +70,7 @@ def is_value(body, index):
     """Whether a name stands for a variable's value here."""
     if index in body.in_pattern or body.text(index - 1) in (".", "::") or body.text(index + 1) in ("(", "::", ":"):
         return False
-    return not (body.starts_statement(index) and body.text(index + 1) in ("=", "+=", "-="))
+    return not (body.starts_statement(index) and body.text(body.ahead(index, (";", "=", "+=", "-="))) in ("=", "+=", "-="))
 
 
 def is_lone_field(body, index):

@@ -14,11 +14,18 @@ def comparisons(body):
 
 
 def constants(body):
-    """Each integer plus one and minus one."""
+    """Each integer plus one and minus one; in a pattern of one integer not where another pattern has it, as the compiler refuses that."""
+    taken = {body.text(i) for i in body.in_pattern if is_lone(body, i)}
     for index in body.range():
         if body.tokens[index].kind == "number" and body.text(index - 1) != ".":
             for other in beside(body.text(index)):
-                yield "constant", index, index, other
+                if not (is_lone(body, index) and other in taken):
+                    yield "constant", index, index, other
+
+
+def is_lone(body, index):
+    """Whether a token stands in a pattern, and not as the end of a range."""
+    return index in body.in_pattern and "..=" not in (body.text(index - 1), body.text(index + 1))
 
 
 def beside(literal):
