@@ -51,8 +51,10 @@ def verdict(log, crate, where):
         return NO_ANSWER, "the log has no line for the function"
     if status[1].startswith("proved"):
         return SURVIVED, ""
+    if status[1].startswith("no proof") and "does not close" in status[1]:
+        return REFUSED, status[1]
     if status[1].startswith("no proof"):
-        return (REFUSED if "does not close" in status[1] else MISFIT), status[1]
+        return (HIDDEN if "; it calls " in status[1] else MISFIT), status[1]
     if status[1].startswith("could not tell"):
         return NO_ANSWER, status[1]
     errors = [e for e in own_errors(log, crate, where) if WAITS not in e]
