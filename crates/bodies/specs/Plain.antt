@@ -1,4 +1,4 @@
--- Plain items whose tag has one byte, as the scan passes them by that byte alone. The law `plain-step` says what it is worth.
+-- About the code alone: plain items whose tag has one byte, as the scan passes them by that byte. No promise to a caller cites this; the law `plain-step` says what it is worth.
 -- Assumes nothing.
 use Prim.Native.Nat.{ℕ, _+_, _/_, _%_}
 use lib.Dec.{ltb, eqb}

@@ -1,4 +1,4 @@
--- The numbers of the blocks that are open around a place, one for each depth, as a program keeps them while it walks.
+-- About the code alone: the numbers of the open blocks, one for each depth, as it keeps them while it walks. No promise to a caller cites this; the law `fitting-goes` says what they are worth.
 -- Assumes nothing.
 use mathlib.Core.Bool.{Bool, true}
 use mathlib.Core.List.{List, [], _∷_}

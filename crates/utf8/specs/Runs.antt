@@ -1,4 +1,4 @@
--- Runs of bytes below 128 (RFC 3629: UTF8-1, each a character by itself), as the check passes them.
+-- About the code alone: runs of bytes below 128 (RFC 3629: UTF8-1, each a character by itself), as the check passes them. No promise to a caller cites this; the law `run-passed` says what they are worth.
 -- Assumes nothing.
 use mathlib.Core.List.{List}
 use Prim.Native.Nat.{ℕ, _+_, _*_, _/_, _%_, _≤_, _<_}

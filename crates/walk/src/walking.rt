@@ -1,6 +1,6 @@
 // The strict walk: an item is plain or a block, and a block is a list of items between its own two tags of one number.
 // Stack: no more than sixteen blocks are open, so no more than seventeen calls of `walk_list` are under way at once, each with one of `walk_item`,
-// whatever the input; in the program edges, compiled for x86-64, the two share a frame of 160 bytes, which makes 2,720 bytes.
+// whatever the input; docs/DECISIONS.md has how many bytes that makes.
 ghost use mathlib.Core.Path.{_≡_};
 ghost use Prim.Native.Nat.{_≤_, _<_};
 ghost use lib.ListN.{length};
