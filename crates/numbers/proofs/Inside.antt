@@ -1,6 +1,6 @@
 -- What an accepted read or write says of the buffer.
 -- Assumes nothing.
-use mathlib.Core.Path.{_≡_, refl, sym, ap, _∙_}
+use mathlib.Core.Path.{_≡_, refl, sym, ap, subst, _∙_}
 use Prim.Native.Nat.{ℕ, _+_, _-_, _<_, _≤_}
 use native.Mathlib.Omega.{arith}
 use mathlib.Core.List.{List}
@@ -8,12 +8,15 @@ use lib.ListN.{length, take, drop}
 use lib.Dec.{ltb}
 use borrow.Author.Tests.{ltb-false}
 use Rattle.types.specs.Refusal.{amount}
-use Rattle.types.specs.Answer.{Answer, accepted, refused, guarded}
+use Rattle.types.specs.Answer.{Answer, accepted, refused, refusal, then, guarded}
 use Rattle.types.specs.Choice.{if}
 use Rattle.types.specs.Writing.{Writable, can, cannot, unless, writeAnswer}
+use Rattle.types.specs.declared.refusal.Refusal.{Refusal}
 use Rattle.types.proofs.Choices.{either}
 use Rattle.numbers.specs.Integer.{unsignedValue}
-use Rattle.numbers.specs.Reading.{Part, partAt, sliceFrom, fixedFrom, contentFrom}
+use Rattle.numbers.specs.Reading.{Part, partAt, bytesIn, sliceFrom, fixedFrom, contentFrom, paperSlice}
+use Rattle.numbers.specs.declared.reading.SliceRead.{SliceRead}
+use Rattle.numbers.specs.declared.reading.SliceRead.the-variants as s
 
 -- a part that is answered for n bytes from a place on is those bytes, inside the buffer, with the place after them
 abbrev pub Inside : ℕ → List ℕ → ℕ → Answer Part → Type 0
@@ -27,17 +30,27 @@ slice-inside n xs place =
     either (Inside n xs place) (ltb (length xs) place) (λ f. tt) (λ f.
     either (Inside n xs place) (ltb (length xs) (place + n)) (λ g. tt) (λ g. (refl, refl, refl, ltb-false (length xs) (place + n) g))))
 
--- a number of n bytes, where the part is answered
-pub record FixedRead (n : ℕ) (xs : List ℕ) (place start next : ℕ) : Type 0 where
-  pub inside : start + n ≤ length xs
-  pub number : accepted (unsignedValue (take n (drop start xs))) next ≡ fixedFrom n xs place
+-- a number of n bytes, by what reading their part has answered
+module _ (n : ℕ) (xs : List ℕ) (place : ℕ) (r : SliceRead) (answered : paperSlice r ≡ sliceFrom n xs place) where
+  fixed-by-part : (x : SliceRead) → r ≡ x → then (paperSlice x) (λ p next. accepted (unsignedValue (bytesIn xs p)) next) ≡ fixedFrom n xs place
+  unfolding fixedFrom
+  fixed-by-part x e = ap (λ (a : Answer Part). then a (λ p next. accepted (unsignedValue (bytesIn xs p)) next)) (ap paperSlice (sym e) ∙ answered)
 
-pub fixed-read : (n : ℕ) (xs : List ℕ) (place start size next : ℕ) → sliceFrom n xs place ≡ accepted (partAt start size) next → FixedRead n xs place start next
-unfolding fixedFrom
-fixed-read n xs place start size next e =
-    let h : Inside n xs place (accepted (partAt start size) next) = rw e at (slice-inside n xs place) in
-    let w : start + n ≤ length xs = omega arith in
-    record { inside = w; number = rw e (ap (λ (m : ℕ). accepted (unsignedValue (take m (drop start xs))) next) (sym (h .1))) }
+  module _ (start size next : ℕ) (e : r ≡ s.Slice start size next) where
+    part-inside : Inside n xs place (accepted (partAt start size) next)
+    part-inside = subst (Inside n xs place) (sym answered ∙ ap paperSlice e) (slice-inside n xs place)
+
+    -- its bytes lie inside the buffer
+    pub fixed-room : start + n ≤ length xs
+    fixed-room = let h : Inside n xs place (accepted (partAt start size) next) = part-inside in omega arith
+
+    -- what they stand for is the number
+    pub fixed-read : (v : ℕ) → v ≡ unsignedValue (take n (drop start xs)) → accepted v next ≡ fixedFrom n xs place
+    fixed-read v f = ap (λ (x : ℕ). accepted x next) (f ∙ ap (λ (m : ℕ). unsignedValue (take m (drop start xs))) (sym (part-inside .1))) ∙ fixed-by-part (s.Slice start size next) e
+
+  -- it is refused for what the part was
+  pub fixed-refused : (x : Refusal) → r ≡ s.Refused x → refusal x ≡ fixedFrom n xs place
+  fixed-refused x e = fixed-by-part (s.Refused x) e
 
 -- an integer's content has besides 1 to 8 bytes
 abbrev pub Held : ℕ → List ℕ → ℕ → Answer Part → Type 0
