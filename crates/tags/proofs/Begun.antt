@@ -40,9 +40,9 @@ begun-alone t xs place =
     (alone (headerBytes t) xs place (writeAnswer 0 (writableTag t) (length (headerBytes t)) xs place) (write-room 0 (writableTag t) (length (headerBytes t)) xs place))
 
 -- a tag of one byte, which can be written
-pub short-before : (t : Tag) (b content : ℕ) (xs : List ℕ) (place : ℕ) → headerBytes t ≡ b ∷ [] → hasNoValue t ≡ true → oneBefore b content xs place ≡ tagBefore t content xs place
+pub short-before : (t : Tag) (b content : ℕ) (xs : List ℕ) (place : ℕ) → (headerBytes t ≡ b ∷ []) × (hasNoValue t ≡ true) → oneBefore b content xs place ≡ tagBefore t content xs place
 unfolding tagBefore oneBefore
-short-before t b content xs place e f = rw (e, f) refl
+short-before t b content xs place (e, f) = rw (e, f) refl
 
 -- where there is room, one byte is stored
 pub one-stored : (b content : ℕ) (xs : List ℕ) (place : ℕ) → length xs ≤ 65535 → place ≤ length xs → place + (1 + content) ≤ length xs → left (accepted tt (place + 1)) (set xs place b) ≡ oneBefore b content xs place

@@ -9,9 +9,11 @@ use lib.ListN.{length, take, drop, length-append, length-drop, drop-of-length-le
 use lib.Seq.{take-at, drop-at, drop-drop, length-take-le, take-all}
 use borrow.Rule.Slice.PartMut.{putMid}
 use Rattle.types.specs.Tag.{Number, Tag, tag}
-use Rattle.types.specs.Refusal.{Carried}
-use Rattle.types.specs.Answer.{Answer, accepted, refused}
-use Rattle.types.specs.Writing.{Left, left, over, can, settled, writeAnswer, writing}
+use Rattle.types.specs.Answer.{Answer, accepted, refused, refusal}
+use Rattle.types.specs.Writing.{Left, left, over, can, settled, writeAnswer, writing, paperWritten}
+use Rattle.types.specs.declared.refusal.Refusal.{Refusal}
+use Rattle.types.specs.declared.written.Written.{Written}
+use Rattle.types.specs.declared.written.Written.the-variants as w
 use Rattle.numbers.proofs.Inside.{Room, write-room}
 use Rattle.numbers.proofs.Wrote.{over-length, write-fits}
 use Rattle.tags.specs.Writing.{headerBytes, writableTag, begun, tagBefore}
@@ -45,8 +47,11 @@ by-parts bytes content xs place (accepted u next) r =
 by-parts bytes content xs place (refused n c) r = refl
 
 -- where a header was written, there is room for the content that it is to have
+abbrev pub RoomFor : ℕ → List ℕ → ℕ → Type 0
+RoomFor content ys next = (next + content ≤ length ys) × (length ys ≤ 65535)
+
 abbrev BegunRoom : ℕ → List ℕ → Answer (Unit {0}) → Type 0
-BegunRoom content ys (accepted u next) = (next + content ≤ length ys) × (length ys ≤ 65535)
+BegunRoom content ys (accepted u next) = RoomFor content ys next
 BegunRoom content ys (refused n c) = Unit {0}
 
 room-left : (bytes : List ℕ) (content : ℕ) (xs : List ℕ) (place : ℕ) (a : Answer (Unit {0})) → Room (length bytes + content) xs place a
@@ -56,11 +61,10 @@ room-left bytes content xs place (accepted u next) r =
     (omega (arith, r .1), omega (arith, r .2))
 room-left bytes content xs place (refused n c) r = tt
 
-pub begun-room : (t : Tag) (content : ℕ) (xs : List ℕ) (place next : ℕ) (ys : List ℕ) → tagBefore t content xs place ≡ left (accepted tt next) ys
-    → (next + content ≤ length ys) × (length ys ≤ 65535)
+pub begun-room : (t : Tag) (content : ℕ) (xs : List ℕ) (place : ℕ) (r : Written) (ys : List ℕ) (next : ℕ) → left (paperWritten r) ys ≡ tagBefore t content xs place → r ≡ w.To next → RoomFor content ys next
 unfolding tagBefore
-begun-room t content xs place next ys e =
-    subst (λ (l : Left). BegunRoom content (l .buffer) (l .answer)) e
+begun-room t content xs place r ys next e to =
+    subst (λ (l : Left). BegunRoom content (l .buffer) (l .answer)) (sym e ∙ ap (λ (x : Written). left (paperWritten x) ys) to)
     (room-left (headerBytes t) content xs place (writeAnswer 0 (writableTag t) (length (headerBytes t) + content) xs place) (write-room 0 (writableTag t) (length (headerBytes t) + content) xs place))
 
 -- the rest of a buffer from a place on, lent and put back
@@ -75,38 +79,42 @@ put-back p ys l h =
     let e : drop (length ys - p) (drop p ys) ≡ [] = drop-of-length-le (drop p ys) {i = length ys - p} (omega (arith, length-drop p ys)) in
     rw (e, append-nil)
 
-module _ (n : Number) (content xs : List ℕ) (place : ℕ) where
-  -- writing an item is writing its header, with room for the content, and then the content into the rest of the buffer
-  pub item-by-parts : itemTo n content xs place ≡ followed content (tagBefore (tag n (length content)) (length content) xs place .buffer) (tagBefore (tag n (length content)) (length content) xs place .answer)
-  unfolding itemTo writing tagBefore
-  item-by-parts =
-      let t : Tag = tag n (length content) in
-      rw (length-append (headerBytes t) content)
-      (by-parts (headerBytes t) content xs place (writeAnswer 0 (writableTag t) (length (headerBytes t) + length content) xs place)
-      (write-room 0 (writableTag t) (length (headerBytes t) + length content) xs place))
+-- writing an item is writing its header, with room for the content, and then the content into the rest of the buffer
+pub item-by-parts : (n : Number) (content xs : List ℕ) (place : ℕ)
+    → itemTo n content xs place ≡ followed content (tagBefore (tag n (length content)) (length content) xs place .buffer) (tagBefore (tag n (length content)) (length content) xs place .answer)
+unfolding itemTo writing tagBefore
+item-by-parts n content xs place =
+    let t : Tag = tag n (length content) in
+    rw (length-append (headerBytes t) content)
+    (by-parts (headerBytes t) content xs place (writeAnswer 0 (writableTag t) (length (headerBytes t) + length content) xs place)
+    (write-room 0 (writableTag t) (length (headerBytes t) + length content) xs place))
 
-  -- so a writer that leaves the content at the front of the rest has written the item
-  pub item-filled : (next : ℕ) (ys : List ℕ) → tagBefore (tag n (length content)) (length content) xs place ≡ left (accepted tt next) ys
-      → (zs : List ℕ) → zs ≡ over (take (length ys - next) (drop next ys)) 0 content
-      → (len : ℕ) → length content ≡ len → left (accepted tt (next + len)) (putMid next (length ys - next) ys zs) ≡ itemTo n content xs place
-  item-filled next ys e zs z len sized =
-      let r = begun-room (tag n (length content)) (length content) xs place next ys e in
+-- content as long as its header says, of which the header's write has answered r and left ys
+module _ (n : Number) (content xs : List ℕ) (place len : ℕ) (r : Written) (ys : List ℕ) (sized : length content ≡ len) (headed : left (paperWritten r) ys ≡ tagBefore (tag n len) len xs place) where
+  item-behind : (x : Written) → r ≡ x → followed content ys (paperWritten x) ≡ itemTo n content xs place
+  item-behind x e =
+      ap (λ (y : Written). followed content ys (paperWritten y)) (sym e)
+      ∙ ap (λ (l : Left). followed content (l .buffer) (l .answer)) (headed ∙ ap (λ (k : ℕ). tagBefore (tag n k) k xs place) (sym sized))
+      ∙ sym (item-by-parts n content xs place)
+
+  -- a writer that leaves the content at the front of the rest has written the item
+  pub item-filled : (next : ℕ) → r ≡ w.To next → (zs : List ℕ) → zs ≡ over (take (length ys - next) (drop next ys)) 0 content
+      → left (accepted tt (next + len)) (putMid next (length ys - next) ys zs) ≡ itemTo n content xs place
+  item-filled next to zs z =
+      let room : RoomFor len ys next = begun-room (tag n len) len xs place r ys next headed to in
       ap (λ (k : ℕ). left (accepted tt (next + k)) (putMid next (length ys - next) ys zs)) (sym sized)
       ∙ ap (left (accepted tt (next + length content))) (put-back next ys zs (omega arith) ∙ ap (λ (ts : List ℕ). take next ys ++ ts) (z ∙ ap (λ (ts : List ℕ). over ts 0 content) (lent-rest next ys)))
-      ∙ sym (item-by-parts ∙ ap (λ (l : Left). followed content (l .buffer) (l .answer)) e)
+      ∙ item-behind (w.To next) to
 
   -- as one does that writes it there
-  pub item-written : (next : ℕ) (ys : List ℕ) → tagBefore (tag n (length content)) (length content) xs place ≡ left (accepted tt next) ys
-      → (lent : ℕ) → lent ≤ 65535 → (a : Answer (Unit {0})) (zs bytes : List ℕ) → left a zs ≡ writing lent can bytes (take (length ys - next) (drop next ys)) 0 → bytes ≡ content
-      → (len : ℕ) → length content ≡ len → left (accepted tt (next + len)) (putMid next (length ys - next) ys zs) ≡ itemTo n content xs place
-  item-written next ys e lent small a zs bytes w same len sized =
-      let r = begun-room (tag n (length content)) (length content) xs place next ys e in
+  pub item-written : (next : ℕ) → r ≡ w.To next → (lent : ℕ) (a : Answer (Unit {0})) (zs bytes : List ℕ) → lent ≤ 65535 → left a zs ≡ writing lent can bytes (take (length ys - next) (drop next ys)) 0 → bytes ≡ content
+      → left (accepted tt (next + len)) (putMid next (length ys - next) ys zs) ≡ itemTo n content xs place
+  item-written next to lent a zs bytes small e same =
+      let room : RoomFor len ys next = begun-room (tag n len) len xs place r ys next headed to in
       let rest : List ℕ = take (length ys - next) (drop next ys) in
       let d : length rest ≡ length ys - next = lent-length next ys in
-      item-filled next ys e zs
-      (ap (λ (l : Left). l .buffer) (w ∙ ap (λ (bs : List ℕ). writing lent can bs rest 0) same ∙ write-fits lent content rest 0 small (omega arith) (omega arith)))
-      len sized
+      item-filled next to zs (ap (λ (l : Left). l .buffer) (e ∙ ap (λ (bs : List ℕ). writing lent can bs rest 0) same ∙ write-fits lent content rest 0 small (omega arith) (omega arith)))
 
   -- and one whose header was refused is refused
-  pub item-refused : (k : ℕ) (c : Carried) (ys : List ℕ) → tagBefore (tag n (length content)) (length content) xs place ≡ left (refused k c) ys → left (refused k c) ys ≡ itemTo n content xs place
-  item-refused k c ys e = sym (item-by-parts ∙ ap (λ (l : Left). followed content (l .buffer) (l .answer)) e)
+  pub item-refused : (x : Refusal) → r ≡ w.Refused x → left (refusal x) ys ≡ itemTo n content xs place
+  item-refused x = item-behind (w.Refused x)

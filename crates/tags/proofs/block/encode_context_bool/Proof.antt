@@ -2,29 +2,16 @@
 -- Assumes nothing.
 use borrow.Author.Needs.{needs}
 use native.Mathlib.Omega.{arith}
-use mathlib.Core.Path.{_≡_, refl, _∙_, ap, sym}
-use Prim.Native.Nat.{ℕ, _+_, _≤_}
-use lib.ListN.{length}
-use Rattle.types.specs.Tag.{tag, context}
-use Rattle.types.specs.Answer.{accepted}
-use Rattle.types.specs.Writing.{left, paperWritten}
-use Rattle.types.specs.declared.written.Written.{Written}
+use mathlib.Core.Path.{refl, ap}
 use mathlib.Core.List.{[], _∷_}
+use Prim.Native.Nat.{ℕ}
 use Rattle.tags.specs.Item.{booleanByte}
-use Rattle.tags.specs.Writing.{tagBefore}
-use Rattle.tags.proofs.Item.{begun-room, item-written, item-refused}
+use Rattle.tags.proofs.Item.{RoomFor, begun-room, item-written, item-refused}
 use Rattle.tags.proofs.block.encode_context_bool.Statement.{statement}
 use Rattle.tags.proofs.block.encode_context_bool.Tie as tie
 
--- what writing the header answered and left
-begun-to : (c : tie.After-next) → (let a = c .before .before .before .before .before .before .before .args in
-    tagBefore (tag (context (a .tag-number)) 1) 1 (a .buf .now) (a .place) ≡ left (accepted tt (c .next .given .0 .0)) (c .before .before .before .before .begin .last .1 .1 .0))
-begun-to c = sym (c .before .before .before .before .begin .ensures) ∙ ap (λ (r : Written). left (paperWritten r) (c .before .before .before .before .begin .last .1 .1 .0)) (c .next .given .1)
-
-room : (c : tie.After-next) → (c .next .given .0 .0 + 1 ≤ length (c .before .before .before .before .begin .last .1 .1 .0)) × (length (c .before .before .before .before .begin .last .1 .1 .0) ≤ 65535)
-room c =
-    let a = c .before .before .before .before .before .before .before .args in
-    begun-room (tag (context (a .tag-number)) 1) 1 (a .buf .now) (a .place) (c .next .given .0 .0) (c .before .before .before .before .begin .last .1 .1 .0) (begun-to c)
+room : (c : tie.After-next) → RoomFor 1 (c .before .before .before .before .begin .last .1 .1 .0) (c .next .given .0 .0)
+room c = begun-room _ _ _ _ _ _ _ (c .before .before .before .before .begin .ensures) (c .next .given .1)
 
 begin-requires : tie.Need-begin-requires
 begin-requires c κs = search needs
@@ -57,17 +44,13 @@ same-length : tie.Need-same-length
 same-length c = search needs
 
 returns : tie.Need-returns
-returns c =
-    let a = c .before .before .before .before .before .before .before .before .before .before .before .before .before .args in
-    item-written (context (a .tag-number)) (booleanByte (a .value) ∷ []) (a .buf .now) (a .place) (c .before .before .before .before .before .before .next .given .0 .0) (c .before .before .before .before .before .before .before .before .before .before .begin .last .1 .1 .0) (begun-to (c .before .before .before .before .before .before)) 0 (omega arith) (paperWritten (c .before .before .push .result)) (c .before .before .push .last .1 .0) _ (c .before .before .push .ensures) (ap (λ (b : ℕ). b ∷ []) (c .before .before .before .before .byte-of .ensures)) 1 refl
+returns c = let a = c .before .before .before .before .before .before .before .before .before .before .before .before .before .args in item-written _ (booleanByte (a .value) ∷ []) _ _ _ _ _ refl (c .before .before .before .before .before .before .before .before .before .before .begin .ensures) _ (c .before .before .before .before .before .before .next .given .1) 0 _ _ _ (omega arith) (c .before .before .push .ensures) (ap (λ (b : ℕ). b ∷ []) (c .before .before .before .before .byte-of .ensures))
 
 same-length-2 : tie.Need-same-length-2
 same-length-2 c = search needs
 
 returns-2 : tie.Need-returns-2
-returns-2 c =
-    let a = c .before .before .before .before .before .before .before .before .args in
-    item-refused (context (a .tag-number)) (booleanByte (a .value) ∷ []) (a .buf .now) (a .place) _ _ (c .before .before .before .before .before .begin .last .1 .1 .0) (sym (c .before .before .before .before .before .begin .ensures) ∙ ap (λ (r : Written). left (paperWritten r) (c .before .before .before .before .before .begin .last .1 .1 .0)) (c .before .r .given .1))
+returns-2 c = let a = c .before .before .before .before .before .before .before .before .args in item-refused _ (booleanByte (a .value) ∷ []) _ _ _ _ _ refl (c .before .before .before .before .before .begin .ensures) _ (c .before .r .given .1)
 
 pub encode-context-bool-spec : {M : Type 1} → statement M
 encode-context-bool-spec = tie.close (tie.spec begin-requires enum-known-next byte-of-requires sub-push part-push-start part-push-end push-requires add-t16 enum-known-r same-length returns same-length-2 returns-2)

@@ -3,19 +3,14 @@
 use borrow.Author.Needs.{needs}
 use native.Mathlib.Omega.{arith}
 use mathlib.Core.Path.{_≡_, refl, _∙_, ap, sym}
-use Prim.Native.Nat.{_+_, _≤_}
 use lib.ListN.{length}
-use Rattle.types.specs.Tag.{tag, numberOf}
-use Rattle.types.specs.Answer.{accepted}
-use Rattle.types.specs.Writing.{left, paperWritten}
-use Rattle.types.specs.declared.written.Written.{Written}
+use Rattle.types.specs.Tag.{numberOf}
 use mir.Syntax.{w64}
 use mir.Val.{toZ, ofZ}
 use mir.ValLaws.{toZ-ofZ}
 use Rattle.numbers.specs.Integer.{signedLength, signedBytes}
 use Rattle.numbers.proofs.Shortest.{signed-length}
-use Rattle.tags.specs.Writing.{tagBefore}
-use Rattle.tags.proofs.Item.{begun-room, item-written, item-refused}
+use Rattle.tags.proofs.Item.{RoomFor, begun-room, item-written, item-refused}
 use Rattle.tags.proofs.integer.signed_under.Statement.{statement}
 use Rattle.tags.proofs.integer.signed_under.Tie as tie
 
@@ -26,19 +21,8 @@ itself c = toZ-ofZ w64 (c .args .value) (c .fits .value)
 sized : (c : tie.After-signed-length) → length (signedBytes (c .before .before .args .value)) ≡ c .signed-length .result
 sized c = signed-length (c .before .before .args .value) ∙ sym (c .signed-length .ensures .0 ∙ ap signedLength (itself (c .before .before)))
 
--- what writing the header answered and left
-begun : (c : tie.After-begin) → (let a = c .before .before .before .before .args in
-    tagBefore (tag (numberOf (a .number)) (length (signedBytes (a .value)))) (length (signedBytes (a .value))) (a .buf .now) (a .place) ≡ left (paperWritten (c .begin .result)) (c .begin .last .1 .1 .0))
-begun c = rw (sized (c .before .before)) (sym (c .begin .ensures))
-
-begun-to : (c : tie.After-next) → (let a = c .before .before .before .before .before .before .before .before .args in
-    tagBefore (tag (numberOf (a .number)) (length (signedBytes (a .value)))) (length (signedBytes (a .value))) (a .buf .now) (a .place) ≡ left (accepted tt (c .next .given .0 .0)) (c .before .before .before .before .begin .last .1 .1 .0))
-begun-to c = begun (c .before .before .before .before) ∙ ap (λ (r : Written). left (paperWritten r) (c .before .before .before .before .begin .last .1 .1 .0)) (c .next .given .1)
-
-room : (c : tie.After-next) → (c .next .given .0 .0 + c .before .before .before .before .before .before .signed-length .result ≤ length (c .before .before .before .before .begin .last .1 .1 .0)) × (length (c .before .before .before .before .begin .last .1 .1 .0) ≤ 65535)
-room c =
-    let a = c .before .before .before .before .before .before .before .before .args in
-    rw (sized (c .before .before .before .before .before .before)) at (begun-room (tag (numberOf (a .number)) (length (signedBytes (a .value)))) (length (signedBytes (a .value))) (a .buf .now) (a .place) (c .next .given .0 .0) (c .before .before .before .before .begin .last .1 .1 .0) (begun-to c))
+room : (c : tie.After-next) → RoomFor (c .before .before .before .before .before .before .signed-length .result) (c .before .before .before .before .begin .last .1 .1 .0) (c .next .given .0 .0)
+room c = begun-room _ _ _ _ _ _ _ (c .before .before .before .before .begin .ensures) (c .next .given .1)
 
 signed-length-requires : tie.Need-signed-length-requires
 signed-length-requires c κs = search needs
@@ -77,19 +61,13 @@ same-length : tie.Need-same-length
 same-length c = search needs
 
 returns : tie.Need-returns
-returns c =
-    let a = c .before .before .before .before .before .before .before .before .before .before .before .before .before .args in
-    let n = c .before .before .before .before .before .next .given .0 .0 in
-    let v = signedBytes (a .value) in
-    item-written (numberOf (a .number)) v (a .buf .now) (a .place) n (c .before .before .before .before .before .before .before .before .before .begin .last .1 .1 .0) (begun-to (c .before .before .before .before .before)) 0 (omega arith) (paperWritten (c .before .before .write-signed .result)) (c .before .before .write-signed .last .1 .0) _ (c .before .before .write-signed .ensures) (ap signedBytes (itself (c .before .before .before .before .before .before .before .before .before .before .before .before .before))) (c .before .before .before .before .before .before .before .before .before .before .before .signed-length .result) (sized (c .before .before .before .before .before .before .before .before .before .before .before))
+returns c = let a = c .before .before .before .before .before .before .before .before .before .before .before .before .before .args in item-written _ (signedBytes (a .value)) _ _ _ _ _ (sized (c .before .before .before .before .before .before .before .before .before .before .before)) (c .before .before .before .before .before .before .before .before .before .begin .ensures) _ (c .before .before .before .before .before .next .given .1) 0 _ _ _ (omega arith) (c .before .before .write-signed .ensures) (ap signedBytes (itself (c .before .before .before .before .before .before .before .before .before .before .before .before .before)))
 
 same-length-2 : tie.Need-same-length-2
 same-length-2 c = search needs
 
 returns-2 : tie.Need-returns-2
-returns-2 c =
-    let a = c .before .before .before .before .before .before .before .before .before .args in
-    item-refused (numberOf (a .number)) (signedBytes (a .value)) (a .buf .now) (a .place) _ _ (c .before .before .before .before .before .begin .last .1 .1 .0) (begun (c .before .before .before .before .before) ∙ ap (λ (r : Written). left (paperWritten r) (c .before .before .before .before .before .begin .last .1 .1 .0)) (c .before .r .given .1))
+returns-2 c = let a = c .before .before .before .before .before .before .before .before .before .args in item-refused _ (signedBytes (a .value)) _ _ _ _ _ (sized (c .before .before .before .before .before .before .before)) (c .before .before .before .before .before .begin .ensures) _ (c .before .r .given .1)
 
 pub signed-under-spec : {M : Type 1} → statement M
 signed-under-spec = tie.close (tie.spec signed-length-requires cast-begin cast-begin-2 begin-requires enum-known-next sub-write-signed part-write-signed-start part-write-signed-end write-signed-requires add-t16 enum-known-r same-length returns same-length-2 returns-2)

@@ -3,16 +3,11 @@
 use borrow.Author.Needs.{needs}
 use native.Mathlib.Omega.{arith}
 use mathlib.Core.Path.{_≡_, refl, _∙_, ap, sym}
-use Prim.Native.Nat.{_+_, _≤_}
 use lib.ListN.{length}
-use Rattle.types.specs.Tag.{tag, numberOf}
-use Rattle.types.specs.Answer.{accepted}
-use Rattle.types.specs.Writing.{left, paperWritten}
-use Rattle.types.specs.declared.written.Written.{Written}
+use Rattle.types.specs.Tag.{numberOf}
 use Rattle.numbers.specs.Integer.{unsignedBytes}
 use Rattle.numbers.proofs.Shortest.{unsigned-length}
-use Rattle.tags.specs.Writing.{tagBefore}
-use Rattle.tags.proofs.Item.{begun-room, item-written, item-refused}
+use Rattle.tags.proofs.Item.{RoomFor, begun-room, item-written, item-refused}
 use Rattle.tags.proofs.integer.unsigned_under.Statement.{statement}
 use Rattle.tags.proofs.integer.unsigned_under.Tie as tie
 
@@ -20,19 +15,8 @@ use Rattle.tags.proofs.integer.unsigned_under.Tie as tie
 sized : (c : tie.After-unsigned-length) → length (unsignedBytes (c .before .before .args .value)) ≡ c .unsigned-length .result
 sized c = unsigned-length (c .before .before .args .value) ∙ sym (c .unsigned-length .ensures .0)
 
--- what writing the header answered and left
-begun : (c : tie.After-begin) → (let a = c .before .before .before .before .args in
-    tagBefore (tag (numberOf (a .number)) (length (unsignedBytes (a .value)))) (length (unsignedBytes (a .value))) (a .buf .now) (a .place) ≡ left (paperWritten (c .begin .result)) (c .begin .last .1 .1 .0))
-begun c = rw (sized (c .before .before)) (sym (c .begin .ensures))
-
-begun-to : (c : tie.After-next) → (let a = c .before .before .before .before .before .before .before .before .args in
-    tagBefore (tag (numberOf (a .number)) (length (unsignedBytes (a .value)))) (length (unsignedBytes (a .value))) (a .buf .now) (a .place) ≡ left (accepted tt (c .next .given .0 .0)) (c .before .before .before .before .begin .last .1 .1 .0))
-begun-to c = begun (c .before .before .before .before) ∙ ap (λ (r : Written). left (paperWritten r) (c .before .before .before .before .begin .last .1 .1 .0)) (c .next .given .1)
-
-room : (c : tie.After-next) → (c .next .given .0 .0 + c .before .before .before .before .before .before .unsigned-length .result ≤ length (c .before .before .before .before .begin .last .1 .1 .0)) × (length (c .before .before .before .before .begin .last .1 .1 .0) ≤ 65535)
-room c =
-    let a = c .before .before .before .before .before .before .before .before .args in
-    rw (sized (c .before .before .before .before .before .before)) at (begun-room (tag (numberOf (a .number)) (length (unsignedBytes (a .value)))) (length (unsignedBytes (a .value))) (a .buf .now) (a .place) (c .next .given .0 .0) (c .before .before .before .before .begin .last .1 .1 .0) (begun-to c))
+room : (c : tie.After-next) → RoomFor (c .before .before .before .before .before .before .unsigned-length .result) (c .before .before .before .before .begin .last .1 .1 .0) (c .next .given .0 .0)
+room c = begun-room _ _ _ _ _ _ _ (c .before .before .before .before .begin .ensures) (c .next .given .1)
 
 unsigned-length-requires : tie.Need-unsigned-length-requires
 unsigned-length-requires c κs = search needs
@@ -71,19 +55,13 @@ same-length : tie.Need-same-length
 same-length c = search needs
 
 returns : tie.Need-returns
-returns c =
-    let a = c .before .before .before .before .before .before .before .before .before .before .before .before .before .args in
-    let n = c .before .before .before .before .before .next .given .0 .0 in
-    let v = unsignedBytes (a .value) in
-    item-written (numberOf (a .number)) v (a .buf .now) (a .place) n (c .before .before .before .before .before .before .before .before .before .begin .last .1 .1 .0) (begun-to (c .before .before .before .before .before)) 0 (omega arith) (paperWritten (c .before .before .write-unsigned .result)) (c .before .before .write-unsigned .last .1 .0) v (c .before .before .write-unsigned .ensures) refl (c .before .before .before .before .before .before .before .before .before .before .before .unsigned-length .result) (sized (c .before .before .before .before .before .before .before .before .before .before .before))
+returns c = let a = c .before .before .before .before .before .before .before .before .before .before .before .before .before .args in item-written _ (unsignedBytes (a .value)) _ _ _ _ _ (sized (c .before .before .before .before .before .before .before .before .before .before .before)) (c .before .before .before .before .before .before .before .before .before .begin .ensures) _ (c .before .before .before .before .before .next .given .1) 0 _ _ _ (omega arith) (c .before .before .write-unsigned .ensures) refl
 
 same-length-2 : tie.Need-same-length-2
 same-length-2 c = search needs
 
 returns-2 : tie.Need-returns-2
-returns-2 c =
-    let a = c .before .before .before .before .before .before .before .before .before .args in
-    item-refused (numberOf (a .number)) (unsignedBytes (a .value)) (a .buf .now) (a .place) _ _ (c .before .before .before .before .before .begin .last .1 .1 .0) (begun (c .before .before .before .before .before) ∙ ap (λ (r : Written). left (paperWritten r) (c .before .before .before .before .before .begin .last .1 .1 .0)) (c .before .r .given .1))
+returns-2 c = let a = c .before .before .before .before .before .before .before .before .before .args in item-refused _ (unsignedBytes (a .value)) _ _ _ _ _ (sized (c .before .before .before .before .before .before .before)) (c .before .before .before .before .before .begin .ensures) _ (c .before .r .given .1)
 
 pub unsigned-under-spec : {M : Type 1} → statement M
 unsigned-under-spec = tie.close (tie.spec unsigned-length-requires cast-begin cast-begin-2 begin-requires enum-known-next sub-write-unsigned part-write-unsigned-start part-write-unsigned-end write-unsigned-requires add-t16 enum-known-r same-length returns same-length-2 returns-2)

@@ -1,7 +1,6 @@
 -- `tags::begin` meets its contract: a tag of one byte is stored, and any other written by `begin_long`.
 -- Assumes nothing.
 use mathlib.Core.Path.{_∙_}
-use Rattle.types.specs.Tag.{tagOf}
 use Rattle.tags.proofs.Begun.{short-before}
 use borrow.Author.Needs.{needs}
 use Rattle.tags.proofs.writing.begin.Statement.{statement}
@@ -17,7 +16,7 @@ same-length : tie.Need-same-length
 same-length c = search needs
 
 returns : tie.Need-returns
-returns c = let a = c .before .before .before .before .before .before .before .args in let s = c .before .before .before .before .before .built-plain .ensures (c .before .before .before .before .if1 .taken) in c .before .before .begin-short .ensures ∙ short-before (tagOf (a .tag)) _ (a .content) (a .buf .now) (a .place) (s .0) (s .1)
+returns c = c .before .before .begin-short .ensures ∙ short-before _ _ _ _ _ (c .before .before .before .before .before .built-plain .ensures (c .before .before .before .before .if1 .taken))
 
 begin-long-requires : tie.Need-begin-long-requires
 begin-long-requires c κs = search needs

@@ -1,7 +1,6 @@
 -- `tags::encode` meets its contract: it is what `begin` writes with no content to follow.
 -- Assumes nothing.
 use mathlib.Core.Path.{_∙_}
-use Rattle.types.specs.Tag.{tagOf}
 use Rattle.tags.proofs.Begun.{begun-alone, short-before}
 use borrow.Author.Needs.{needs}
 use Rattle.tags.proofs.writing.encode.Statement.{statement}
@@ -17,7 +16,7 @@ same-length : tie.Need-same-length
 same-length c = search needs
 
 returns : tie.Need-returns
-returns c = let a = c .before .before .before .before .before .before .before .args in let s = c .before .before .before .before .before .built-short .ensures (c .before .before .before .before .if1 .taken) in c .before .before .begin-short .ensures ∙ short-before (tagOf (a .tag)) _ 0 (a .buf .now) (a .place) (s .0) (s .1) ∙ begun-alone (tagOf (a .tag)) (a .buf .now) (a .place)
+returns c = c .before .before .begin-short .ensures ∙ short-before _ _ _ _ _ (c .before .before .before .before .before .built-short .ensures (c .before .before .before .before .if1 .taken)) ∙ begun-alone _ _ _
 
 begin-long-requires : tie.Need-begin-long-requires
 begin-long-requires c κs = search needs
@@ -32,13 +31,13 @@ same-length-2 : tie.Need-same-length-2
 same-length-2 c = search needs
 
 returns-2 : tie.Need-returns-2
-returns-2 c = let a = c .before .before .before .before .before .before .before .before .before .before .args in (rw (c .before .next .given .1) at (c .before .before .before .before .before .begin-long .ensures)) ∙ begun-alone (tagOf (a .tag)) (a .buf .now) (a .place)
+returns-2 c = (rw (c .before .next .given .1) at (c .before .before .before .before .before .begin-long .ensures)) ∙ begun-alone _ _ _
 
 same-length-3 : tie.Need-same-length-3
 same-length-3 c = search needs
 
 returns-3 : tie.Need-returns-3
-returns-3 c = let a = c .before .before .before .before .before .before .before .before .before .before .args in (rw (c .before .r .given .1) at (c .before .before .before .before .before .begin-long .ensures)) ∙ begun-alone (tagOf (a .tag)) (a .buf .now) (a .place)
+returns-3 c = (rw (c .before .r .given .1) at (c .before .before .before .before .before .begin-long .ensures)) ∙ begun-alone _ _ _
 
 pub encode-spec : {M : Type 1} → statement M
 encode-spec =
