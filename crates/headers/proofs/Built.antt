@@ -1,34 +1,44 @@
 -- The bytes of a header, stored one behind the other, are the header written.
 -- Assumes nothing.
 use mathlib.Core.Path.{_≡_, refl, _∙_, ap, sym}
-use Prim.Native.Nat.{ℕ, suc, _+_, _≤_}
+use Prim.Native.Nat.{ℕ, suc, _+_, _≤_, _<_}
 use native.Mathlib.Omega.{arith}
 use mathlib.Core.List.{List, [], _∷_, _++_, append-assoc}
 use lib.ListN.{length, take, drop, set}
 use lib.Seq.{sets, sets-eq}
-use borrow.Author.Tests.{le-ltb}
-use Rattle.types.specs.Answer.{accepted}
+use borrow.Author.Tests.{lt-ltb, le-ltb}
+use Rattle.types.specs.Refusal.{amount}
+use Rattle.types.specs.Answer.{accepted, refused}
 use Rattle.types.specs.Writing.{Left, left, over, can, writeAnswer, writing}
 
--- bytes stored one behind the other, where there is room
-stored : (bytes xs : List ℕ) (place : ℕ) → length xs ≤ 65535 → place + length bytes ≤ length xs → left (accepted tt (place + length bytes)) (sets xs place bytes) ≡ writing 0 can bytes xs place
-unfolding writing writeAnswer
-stored bytes xs place small room =
-    let inside : place ≤ length xs = omega arith in
-    simp (le-ltb 65535 (length xs) small, le-ltb (length xs) place inside, le-ltb (length xs) (place + length bytes) room)
-    (ap (left (accepted tt (place + length bytes))) (sets-eq bytes xs place room ∙ append-assoc (take place xs) bytes (drop (place + length bytes) xs)))
+-- bytes stored at k behind a place, k + 1 behind it, and so on
+abbrev storedFrom : ℕ → List ℕ → List ℕ → ℕ → List ℕ
+storedFrom k [] xs place = xs
+storedFrom k (b ∷ bytes) xs place = storedFrom (suc k) bytes (set xs (place + k) b) place
 
-pub three-stored : (a b c : ℕ) (xs : List ℕ) (place : ℕ) → length xs ≤ 65535 → place + 3 ≤ length xs
-    → left (accepted tt (place + 3)) (set (set (set xs place a) (place + 1) b) (place + 2) c) ≡ writing 0 can (a ∷ b ∷ c ∷ []) xs place
-three-stored a b c xs place small room =
-    let one : place + 1 ≡ suc place = omega arith in
-    let two : place + 2 ≡ suc (suc place) = omega arith in
-    rw (one, two) (stored (a ∷ b ∷ c ∷ []) xs place small room)
+-- and from the place itself on
+abbrev pub oneByOne : List ℕ → List ℕ → ℕ → List ℕ
+oneByOne [] xs place = xs
+oneByOne (b ∷ bytes) xs place = storedFrom 1 bytes (set xs place b) place
 
-pub four-stored : (a b c d : ℕ) (xs : List ℕ) (place : ℕ) → length xs ≤ 65535 → place + 4 ≤ length xs
-    → left (accepted tt (place + 4)) (set (set (set (set xs place a) (place + 1) b) (place + 2) c) (place + 3) d) ≡ writing 0 can (a ∷ b ∷ c ∷ d ∷ []) xs place
-four-stored a b c d xs place small room =
-    let one : place + 1 ≡ suc place = omega arith in
-    let two : place + 2 ≡ suc (suc place) = omega arith in
-    let three : place + 3 ≡ suc (suc (suc place)) = omega arith in
-    rw (one, two, three) (stored (a ∷ b ∷ c ∷ d ∷ []) xs place small room)
+stored-from : (k : ℕ) (bytes xs : List ℕ) (place at : ℕ) → place + k ≡ at → storedFrom k bytes xs place ≡ sets xs at bytes
+stored-from k [] xs place at e = refl
+stored-from k (b ∷ bytes) xs place at e = stored-from (suc k) bytes (set xs (place + k) b) place (suc at) (omega arith) ∙ ap (λ (i : ℕ). sets (set xs i b) (suc at) bytes) e
+
+one-by-one : (bytes xs : List ℕ) (place : ℕ) → oneByOne bytes xs place ≡ sets xs place bytes
+one-by-one [] xs place = refl
+one-by-one (b ∷ bytes) xs place = stored-from 1 bytes (set xs place b) place (suc place) (omega arith)
+
+-- bytes of a header, at a place inside a buffer that is not too long
+module _ (bytes xs : List ℕ) (place : ℕ) (small : length xs ≤ 65535) (inside : place ≤ length xs) where
+  -- stored where there is room
+  pub stored : place + length bytes ≤ length xs → left (accepted tt (place + length bytes)) (oneByOne bytes xs place) ≡ writing 0 can bytes xs place
+  unfolding writing writeAnswer
+  stored room =
+      simp (le-ltb 65535 (length xs) small, le-ltb (length xs) place inside, le-ltb (length xs) (place + length bytes) room)
+      (ap (left (accepted tt (place + length bytes))) (one-by-one bytes xs place ∙ sets-eq bytes xs place room ∙ append-assoc (take place xs) bytes (drop (place + length bytes) xs)))
+
+  -- and refused where there is none
+  pub no-room : length xs < place + length bytes → left (refused 13 (amount (length bytes))) xs ≡ writing 0 can bytes xs place
+  unfolding writing writeAnswer
+  no-room short = simp (le-ltb 65535 (length xs) small, le-ltb (length xs) place inside, lt-ltb (length xs) (place + length bytes) short)

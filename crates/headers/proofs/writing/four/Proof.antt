@@ -1,11 +1,9 @@
 -- `headers::four` meets its contract: where there is room, four bytes are stored one behind the other.
 -- Assumes nothing.
 use native.Mathlib.Omega.{arith}
-use Prim.Native.Nat.{_+_, _<_}
-use lib.ListN.{length, length-set}
-use borrow.Author.Tests.{lt-ltb, le-ltb}
-use Rattle.types.specs.Writing.{writeAnswer, writing}
-use Rattle.headers.proofs.Built.{four-stored}
+use mathlib.Core.List.{[], _∷_}
+use lib.ListN.{length-set}
+use Rattle.headers.proofs.Built.{stored, no-room}
 use borrow.Author.Needs.{needs}
 use Rattle.headers.proofs.writing.four.Statement.{statement}
 use Rattle.headers.proofs.writing.four.Tie as tie
@@ -14,8 +12,7 @@ sub-if1 : tie.Need-sub-if1
 sub-if1 c = search needs
 
 returns : tie.Need-returns
-unfolding writing writeAnswer
-returns c = let a = c .before .args in let p = c .before .pre in let h : length (a .buf .now) < a .place + 4 = omega arith in simp (le-ltb 65535 (length (a .buf .now)) (p .0), le-ltb (length (a .buf .now)) (a .place) (p .1), lt-ltb _ _ h)
+returns c = let a = c .before .args in let p = c .before .pre in no-room (a .first ∷ a .second ∷ a .third ∷ a .fourth ∷ []) (a .buf .now) (a .place) (p .0) (p .1) (omega arith)
 
 slice-write-buf : tie.Need-slice-write-buf
 slice-write-buf c = search needs
@@ -45,7 +42,7 @@ same-length : tie.Need-same-length
 same-length c = search needs
 
 returns-2 : tie.Need-returns-2
-returns-2 c = let a = c .before .args in four-stored _ _ _ _ (a .buf .now) (a .place) (c .before .pre .0) (omega arith)
+returns-2 c = let a = c .before .args in let p = c .before .pre in stored (a .first ∷ a .second ∷ a .third ∷ a .fourth ∷ []) (a .buf .now) (a .place) (p .0) (p .1) (omega arith)
 
 pub four-spec : {M : Type 1} → statement M
 four-spec =

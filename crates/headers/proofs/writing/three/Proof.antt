@@ -1,11 +1,11 @@
 -- `headers::three` meets its contract: where the choice is one and there is room, three bytes are stored one behind the other.
 -- Assumes nothing.
 use native.Mathlib.Omega.{arith}
-use Prim.Native.Nat.{_+_, _<_}
+use mathlib.Core.List.{[], _∷_}
 use lib.ListN.{length, length-set}
 use borrow.Author.Tests.{lt-ltb, le-ltb}
 use Rattle.types.specs.Writing.{writeAnswer, writing}
-use Rattle.headers.proofs.Built.{three-stored}
+use Rattle.headers.proofs.Built.{stored, no-room}
 use borrow.Author.Needs.{needs}
 use Rattle.headers.proofs.writing.three.Statement.{statement}
 use Rattle.headers.proofs.writing.three.Tie as tie
@@ -18,8 +18,7 @@ sub-if2 : tie.Need-sub-if2
 sub-if2 c = search needs
 
 returns-2 : tie.Need-returns-2
-unfolding writing writeAnswer
-returns-2 c = let a = c .before .before .args in let p = c .before .before .pre in let h : length (a .buf .now) < a .place + 3 = omega arith in simp (le-ltb 65535 (length (a .buf .now)) (p .0), le-ltb (length (a .buf .now)) (a .place) (p .1), le-ltb _ _ (c .before .if1 .left), lt-ltb _ _ h)
+returns-2 c = let a = c .before .before .args in let p = c .before .before .pre in rw (le-ltb _ _ (c .before .if1 .left)) (no-room (a .control ∷ a .id ∷ a .choice ∷ []) (a .buf .now) (a .place) (p .0) (p .1) (omega arith))
 
 slice-write-buf : tie.Need-slice-write-buf
 slice-write-buf c = search needs
@@ -43,7 +42,7 @@ same-length : tie.Need-same-length
 same-length c = search needs
 
 returns-3 : tie.Need-returns-3
-returns-3 c = let a = c .before .before .args in rw (le-ltb _ _ (c .before .if1 .left)) (three-stored _ _ _ (a .buf .now) (a .place) (c .before .before .pre .0) (omega arith))
+returns-3 c = let a = c .before .before .args in let p = c .before .before .pre in rw (le-ltb _ _ (c .before .if1 .left)) (stored (a .control ∷ a .id ∷ a .choice ∷ []) (a .buf .now) (a .place) (p .0) (p .1) (omega arith))
 
 pub three-spec : {M : Type 1} → statement M
 three-spec =
