@@ -7,6 +7,7 @@ run: apdu_dump
 test: kit
 	@rt fmt --check
 	@tools/check-promises
+	@tools/check-names
 	@$(MAKE) --no-print-directory programs
 	@tests/apdu-dump
 	@$(MAKE) --no-print-directory oracle

@@ -1,3 +1,4 @@
+pub mod Choice
 pub mod Header
 pub mod Reading
 pub mod Writing

@@ -1,4 +1,7 @@
 // The confirmed service choices; there is none above the last.
+ghost use mathlib.Core.Path.{_≡_};
+ghost use Rattle.headers.specs.Choice.{serviceChoices};
+
 pub const ACKNOWLEDGE_ALARM: u8 = 0;
 
 pub const COV_NOTIFICATION: u8 = 1;
@@ -66,3 +69,45 @@ pub const COV_NOTIFICATION_MULTIPLE: u8 = 31;
 pub const AUDIT_NOTIFICATION: u8 = 32;
 
 pub const AUDIT_LOG_QUERY: u8 = 33;
+
+// All choices, in the order of their numbers.
+pub fn service_choices() -> [u8; 34]
+    ensures { λ r. ⌜ r ≡ serviceChoices ⌝ }
+{
+    [
+        ACKNOWLEDGE_ALARM,
+        COV_NOTIFICATION,
+        EVENT_NOTIFICATION,
+        GET_ALARM_SUMMARY,
+        GET_ENROLLMENT_SUMMARY,
+        SUBSCRIBE_COV,
+        ATOMIC_READ_FILE,
+        ATOMIC_WRITE_FILE,
+        ADD_LIST_ELEMENT,
+        REMOVE_LIST_ELEMENT,
+        CREATE_OBJECT,
+        DELETE_OBJECT,
+        READ_PROPERTY,
+        READ_PROP_CONDITIONAL,
+        READ_PROP_MULTIPLE,
+        WRITE_PROPERTY,
+        WRITE_PROP_MULTIPLE,
+        DEVICE_COMMUNICATION_CONTROL,
+        PRIVATE_TRANSFER,
+        TEXT_MESSAGE,
+        REINITIALIZE_DEVICE,
+        VT_OPEN,
+        VT_CLOSE,
+        VT_DATA,
+        AUTHENTICATE,
+        REQUEST_KEY,
+        READ_RANGE,
+        LIFE_SAFETY_OPERATION,
+        SUBSCRIBE_COV_PROPERTY,
+        GET_EVENT_INFORMATION,
+        SUBSCRIBE_COV_PROPERTY_MULTIPLE,
+        COV_NOTIFICATION_MULTIPLE,
+        AUDIT_NOTIFICATION,
+        AUDIT_LOG_QUERY,
+    ]
+}

@@ -5,6 +5,7 @@ mod pdu_type;
 mod reading;
 mod writing;
 
+pub use confirmed_service_choice::service_choices;
 pub use header::Header;
 pub use reading::HeaderRead;
 pub use reading::decode;

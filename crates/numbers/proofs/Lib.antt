@@ -7,5 +7,6 @@ pub mod Inside
 pub mod Over
 pub mod Found
 pub mod Wrote
+pub mod Untouched
 pub mod Single
 pub mod Examples
