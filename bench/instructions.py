@@ -14,7 +14,7 @@ def kit_tools():
 
 
 def emulator():
-    """The kit's emulator, or another that traces: None where there is none."""
+    """The kit's emulator; None where there is none."""
     own = os.path.join(kit_tools(), "bin", "qemu-x86_64")
     return own if os.access(own, os.X_OK) else None
 

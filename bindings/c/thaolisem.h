@@ -3,9 +3,9 @@
    Every function puts eight numbers into the array that the caller lends. The first is 0 where
    the call is accepted, else the refusal's number; those that a row below does not name are 0.
 
-     a refusal   number, kind, a, b, count
-                   kind 0: a is what the refusal carries
-                   kind 1 to 4: the tag found, of that class, with its number in a and its value in b
+     a refusal   number, class, a, b, count
+                   class 0: a is what the refusal carries
+                   class 1 to 4: the tag found, with its number in a and its value in b
                    count: the tags read, where a body or the walk was asked for
      tag         0, class, number, value, next place
      unsigned    0, value, next place
@@ -49,7 +49,7 @@
       5 tag value is not the expected one                the tag found
       6 no opening tag where a body is asked for         the tag found
       7 content length not allowed                       the length
-      8 tag of no value                                  the tag found
+      8 context class, Null, Double or reserved          the tag found
       9 character set not 0                              the set
      10 text not UTF-8                                   the first bad place, from the text's start
      11 service choice above 33                          the choice
@@ -95,6 +95,7 @@ void thaolisem_walk(const uint8_t *buf, size_t len, size_t place, uint64_t answe
 void thaolisem_decode_value(const uint8_t *buf, size_t len, size_t place, uint64_t answer[8]);
 void thaolisem_decode_header(const uint8_t *buf, size_t len, size_t place, uint64_t answer[8]);
 
+/* A whole text, of any length: 1 is never given. */
 void thaolisem_check_utf8(const uint8_t *text, size_t len, uint64_t answer[8]);
 
 /* Writes, at a place of a buffer. */

@@ -1,4 +1,4 @@
--- Where the work stands after the lines of a read, and between two reads.
+-- About the code alone: where the work stands after the lines of a read, and between two reads. No promise to a caller cites this.
 -- Assumes nothing.
 use Prim.Native.Nat.{ℕ, _+_, _≤_}
 use Rattle.apdu_dump.specs.declared.Texts.{Texts}

@@ -1,4 +1,4 @@
--- Document 01's examples of bodies, and those of its readings, by one statement over their list, which antt computes.
+-- Document 01's examples of bodies, and those of docs/DECISIONS.md, by one statement over their list, which antt computes.
 -- Assumes nothing.
 use mathlib.Core.Path.{_≡_, refl}
 use mathlib.Core.List.{List, [], _∷_}

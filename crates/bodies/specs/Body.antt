@@ -1,4 +1,4 @@
--- Demand 3 in its own words, on bytes alone: what a tagged body is (ASHRAE 135, 20.2.1.3.2). Nothing here scans.
+-- What a tagged body is (ASHRAE 135, 20.2.1.3.2; the third demand of document 01, in its words), on bytes alone. Nothing here scans.
 -- Assumes nothing.
 use Prim.Native.Nat.{ℕ, _+_, _≤_}
 use mathlib.Core.Path.{_≡_}

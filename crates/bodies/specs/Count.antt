@@ -1,4 +1,4 @@
--- What the count that comes with an answer counts: the tags wholly read after the opening.
+-- What the count that comes with an answer counts: the tags wholly read after the opening (document 01, "Bodies").
 -- Assumes nothing.
 use Prim.Native.Nat.{ℕ, _+_, _-_, _<_}
 use mathlib.Core.Path.{_≡_}

@@ -1,4 +1,4 @@
--- The answer that a body is to get.
+-- What is answered where there is a body (document 01, "Bodies").
 -- Assumes nothing.
 use Prim.Native.Nat.{ℕ, _+_}
 use mathlib.Core.List.{List}

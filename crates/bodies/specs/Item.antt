@@ -13,6 +13,7 @@ contentOf (context n) v = v
 contentOf (opening n) v = 0
 contentOf (closing n) v = 0
 
+-- how many bytes of content follow a tag
 abbrev pub contentLength : Tag → ℕ
 contentLength t = contentOf (t .number) (t .value)
 

@@ -58,7 +58,7 @@ fn unread(refusal: Refusal) -> BodyRead
     BodyRead::Refused { refusal, tags: 0 }
 }
 
-// That part of the buffer; empty where it does not lie inside.
+// The bytes of a view; empty where it does not lie inside the buffer.
 pub fn view(start: usize, len: usize, buf: &[u8]) -> &[u8]
     ensures { λ r. ⌜ now r ≡ viewOf start len (now (buf .entry)) ⌝ }
 {

@@ -80,5 +80,6 @@ headedText frame bytes (accepted h body) =
     headerLine frame h ++ if (walks (h .kind)) (walkText frame (walkFrom bytes body)) (okLine frame 0)
 headedText frame bytes (refused n c) = refusedLine frame n
 
+-- the text of a frame of these bytes, by its number
 unfoldable pub frameText : ℕ → List ℕ → List ℕ
 frameText frame bytes = headedText frame bytes (headerFrom bytes 0)

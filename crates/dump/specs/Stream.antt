@@ -1,4 +1,4 @@
--- The lines of a whole input, its text, and a reading of it piece by piece by calls of `put_line` and `keep`.
+-- The lines of a whole input (document 01, "The program"), its text, and a reading of it piece by piece by calls of `put_line` and `keep`.
 -- Assumes nothing.
 use mathlib.Core.Path.{_≡_}
 use mathlib.Core.Bool.{Bool, true, false}

@@ -1,4 +1,4 @@
-// Runs document 01's examples at the edges, a request a line, and prints an answer for each, as replay does.
+// Runs examples at the edges, a request a line, and prints an answer for each, in a form near replay's.
 ghost use Prim.Native.Nat.{_≤_};
 ghost use Rattle.io.specs.Counts.{Counts};
 use bodies::BodyRead;

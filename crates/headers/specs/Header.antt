@@ -8,6 +8,7 @@ use Rattle.types.specs.Choice.{if}
 use Rattle.headers.specs.declared.header.Header as program
 use Rattle.headers.specs.declared.header.Header.the-variants as h
 
+-- the kinds of headers that document 01 takes
 pub data Kind : Type 0 where
   request : Kind
   simple : Kind
@@ -57,12 +58,15 @@ requestLow (choice c ∷ vs) = 0
 abbrev pub noLow : List Value → ℕ
 noLow vs = 0
 
+-- the table (20.1.2, 20.1.4 to 20.1.6): behind its control byte a request has max-segments-accepted and max-APDU-length-accepted in one byte, then invokeID and service-choice;
+-- a simple and a complex acknowledgement have original-invokeID and service-ACK-choice; a segment acknowledgement has original-invokeID, sequence-number and actual-window-size
 abbrev pub rowOf : Kind → Row
 rowOf request = row 0 true requestLow (twoNibbles ∷ oneNumber ∷ oneChoice ∷ [])
 rowOf simple = row 2 false noLow (oneNumber ∷ oneChoice ∷ [])
 rowOf complex = row 3 true noLow (oneNumber ∷ oneChoice ∷ [])
 rowOf segment = row 4 false noLow (oneNumber ∷ oneNumber ∷ oneNumber ∷ [])
 
+-- all of them
 abbrev pub kinds : List Kind
 kinds = request ∷ simple ∷ complex ∷ segment ∷ []
 

@@ -66,7 +66,7 @@ pub fn encode(header: Header, buf: &mut [u8], place: usize) -> Written
     }
 }
 
-// Writes the header of a request: its nibbles are of four bits, and its service choice is one.
+// Writes the header of a request; 12 for a nibble above 15, 11 for a choice above 33.
 fn request(segments: u8, size: u8, id: u8, service: u8, buf: &mut [u8], place: usize) -> Written
     requires { ⌜ (length (now buf) ≤ 65535) × (place ≤ length (now buf)) ⌝ }
     ensures { λ r. ⌜ left (paperWritten r) (now (buf .exit)) ≡ headerTo (headerOf (ConfirmedRequest segments size id service)) (now (buf .entry)) place ⌝ }

@@ -50,6 +50,7 @@ abbrev pub bytesOr : List ℕ → Answer Part → List ℕ
 bytesOr xs (accepted p next) = bytesIn xs p
 bytesOr xs (refused n c) = []
 
+-- the bytes of the part of n bytes from a place on
 unfoldable pub partOf : ℕ → List ℕ → ℕ → List ℕ
 partOf n xs place = bytesOr xs (sliceFrom n xs place)
 
@@ -65,9 +66,11 @@ contentFrom n xs place =
     (if (ltb 8 n) (refused 7 (amount n))
     (sliceFrom n xs place)))
 
+-- the unsigned integer whose content has n bytes (20.2.4)
 unfoldable pub unsignedFrom : ℕ → List ℕ → ℕ → Answer ℕ
 unsignedFrom n xs place = then (contentFrom n xs place) (λ p next. accepted (unsignedValue (bytesIn xs p)) next)
 
+-- the signed integer whose content has n bytes (20.2.5)
 unfoldable pub signedFrom : ℕ → List ℕ → ℕ → Answer ℤ
 signedFrom n xs place = then (contentFrom n xs place) (λ p next. accepted (signedValue (bytesIn xs p)) next)
 

@@ -144,7 +144,7 @@ pub(crate) fn whole(buf: &[u8], start: usize, count: usize) -> u64
     value
 }
 
-// The same, where eight bytes are read as one, since their count is known.
+// The same; eight bytes are read as one.
 pub(crate) fn whole_at_once(buf: &[u8], start: usize, count: usize) -> u64
     requires { ⌜ (count ≤ 8) × (start + count ≤ length (now buf)) ⌝ }
     ensures { λ r. ⌜ r ≡ unsignedValue (take count (drop start (now (buf .entry)))) ⌝ }

@@ -1,4 +1,4 @@
--- The program's struct for a header, and what it holds.
+-- About the code alone: the struct that a tag's bytes are built in, and what it holds. No promise to a caller cites this.
 -- Assumes nothing.
 use mathlib.Core.Path.{_≡_}
 use mathlib.Core.Bool.{true}

@@ -70,9 +70,11 @@ expectedFrom expected xs place =
     then (tagFrom xs place) (λ t next.
     if (sameNumber (t .number) expected) (accepted t next) (refused 4 (tagFound t)))
 
+-- whether a tag has the number expected, else 4
 unfoldable pub expectedNumber : Number → Tag → Outcome
 expectedNumber expected t = if (sameNumber (t .number) expected) passed (stopped 4 (tagFound t))
 
+-- whether it has the value expected, else 5
 unfoldable pub expectedValue : ℕ → Tag → Outcome
 expectedValue expected t = if (eqb (t .value) expected) passed (stopped 5 (tagFound t))
 

@@ -35,10 +35,11 @@ numberBytes (context n) v = contextBytes n (lowBits v) ++ valueBytes v
 numberBytes (opening n) v = contextBytes n 6
 numberBytes (closing n) v = contextBytes n 7
 
+-- the bytes of a tag
 unfoldable pub headerBytes : Tag → List ℕ
 headerBytes t = numberBytes (t .number) (t .value)
 
--- an opening and a closing have no value
+-- an opening and a closing have the value 0; any other tag may have any
 abbrev pub noValue : Number → ℕ → Bool
 noValue (application n) v = true
 noValue (context n) v = true
@@ -48,7 +49,7 @@ noValue (closing n) v = eqb v 0
 unfoldable pub hasNoValue : Tag → Bool
 hasNoValue t = noValue (t .number) (t .value)
 
--- else the tag cannot be written
+-- a tag whose value is not allowed cannot be written: 12
 abbrev pub writableTag : Tag → Writable
 writableTag t = if (hasNoValue t) can (cannot 12 (amount 0))
 

@@ -39,7 +39,7 @@ fn low(value: u32) -> u8
     if value < 5 { value as u8 } else { 5 }
 }
 
-// One byte more.
+// The header with one byte more.
 fn push(header: Header, byte: u8) -> Header
     requires { ⌜ header .len < 7 ⌝ }
     ensures { λ r. ⌜ r ≡ pushed header byte ⌝ }
@@ -76,7 +76,7 @@ fn context(number: u8, low: u8) -> Header
     }
 }
 
-// The bytes that follow for a value.
+// The header with the bytes that follow for a value.
 fn with_value(header: Header, value: u32) -> Header
     requires { ⌜ header .len < 3 ⌝ }
     ensures { λ r. ⌜ r ≡ pushes header (valueBytes value) ⌝ }

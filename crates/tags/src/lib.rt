@@ -30,7 +30,6 @@ pub use writing::encode;
 pub use numbers::decode_signed;
 pub use numbers::decode_unsigned;
 pub use numbers::extend_from_slice;
-pub use numbers::push;
 pub use numbers::read_byte;
 pub use numbers::read_eight_bytes;
 pub use numbers::read_four_bytes;

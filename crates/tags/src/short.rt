@@ -13,7 +13,7 @@ use types::Tag;
 use types::TagNumber;
 use types::Written;
 
-// Writes a tag of one byte; this is compiled into the callers, which know what tag they write.
+// Writes a header of one byte where there is room for it and for as many bytes of content, which are to follow.
 pub(crate) fn begin_short(header: Header, content: u32, buf: &mut [u8], place: usize) -> Written
     ensures { λ r. ⌜ left (paperWritten r) (now (buf .exit)) ≡ oneBefore (getD (header .bytes) 0 0) content (now (buf .entry)) place ⌝ }
 {

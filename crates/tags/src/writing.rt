@@ -42,7 +42,7 @@ pub fn begin(tag: Tag, content: u32, buf: &mut [u8], place: usize) -> Written
     }
 }
 
-// Writes a tag of any length.
+// The same for a tag of any length.
 fn begin_long(tag: Tag, content: u32, buf: &mut [u8], place: usize) -> Written
     ensures { λ r. ⌜ left (paperWritten r) (now (buf .exit)) ≡ tagBefore (tagOf tag) content (now (buf .entry)) place ⌝ }
 {
@@ -65,7 +65,7 @@ fn begin_long(tag: Tag, content: u32, buf: &mut [u8], place: usize) -> Written
     numbers::extend_from_slice(&bytes[0..len], buf, place)
 }
 
-// Whether a tag can be written: an opening or a closing has no value.
+// Whether a tag can be written: the value of an opening or a closing is 0.
 fn writable(tag: Tag) -> bool
     ensures { λ r. ⌜ r ≡ hasNoValue (tagOf tag) ⌝ }
 {

@@ -43,7 +43,8 @@ use Rattle.walk.specs.Walk.{Report, report, paperWalked}
 use Rattle.walk.specs.declared.walking.Walked.{Walked}
 use Rattle.walk.proofs.Single.{single-walked}
 use Rattle.utf8.specs.Check.{Verdict, good, badAt}
-use Rattle.utf8.specs.Answer.{paperCheck, single-answer}
+use Rattle.utf8.specs.Answer.{paperCheck}
+use Rattle.utf8.proofs.Single.{single-checked}
 use Rattle.utf8.specs.declared.Checked.{Checked}
 use Rattle.values.specs.Value.{Value, boolean, real, double, onDate, atTime, objectId, characterString, octetString, enumerated, bitString, unsignedInt, signedInt, date, time, valueOf}
 use Rattle.values.specs.Reading.{paperRead}
@@ -286,7 +287,7 @@ check-again good = refl
 check-again (badAt place) = refl
 
 pub single-told-check : (x y : Checked) → toldCheck (paperCheck x) ≡ toldCheck (paperCheck y) → x ≡ y
-single-told-check x y e = single-answer x y (apart toldCheck checkBack (paperCheck x) (paperCheck y) (check-again (paperCheck x)) (check-again (paperCheck y)) e)
+single-told-check x y e = single-checked x y (apart toldCheck checkBack (paperCheck x) (paperCheck y) (check-again (paperCheck x)) (check-again (paperCheck y)) e)
 
 abbrev writeFields : List ℕ → Answer (Unit {0})
 writeFields l = accepted tt (at l 1)

@@ -87,7 +87,7 @@ fn number_named(class: u8, number: u8) -> NumberNamed
     }
 }
 
-// The application tag's number, which goes to 15.
+// The application tag of a number; none above 15.
 fn application_named(number: u8) -> NumberNamed
     ensures { λ r. ⌜ paperNumber r ≡ applicationNamed number ⌝ }
 {

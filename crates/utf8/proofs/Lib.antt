@@ -7,6 +7,7 @@ pub mod Places
 pub mod Answers
 pub mod Exactly
 pub mod Reading
+pub mod Single
 mod FirstByte
 mod Following
 mod Runs

@@ -1,4 +1,4 @@
--- About the code alone: what its answer on a first byte says of the table. No promise of the crate cites this.
+-- About the code alone: what its answer on a first byte says of the table. No promise to a caller cites this.
 -- Assumes nothing.
 use mathlib.Core.Bool.{cond}
 use mathlib.Core.List.{List, [], _∷_}

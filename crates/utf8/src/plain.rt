@@ -16,7 +16,7 @@ pub(crate) fn after_plain(text: &[u8], start: usize) -> usize
     one_by_one(text, some)
 }
 
-// The place after those that stand there by thirty-twos.
+// The place after the bytes below 128 from a place on, as far as they go by thirty-twos.
 fn by_thirty_two(text: &[u8], start: usize) -> usize
     requires { ⌜ start ≤ length (now text) ⌝ }
     ensures { λ r. ⌜ PlainTo (now (text .entry)) start r ⌝ }
@@ -40,7 +40,7 @@ fn by_thirty_two(text: &[u8], start: usize) -> usize
     place
 }
 
-// The place after those that stand there by eights.
+// The same by eights.
 fn by_eight(text: &[u8], start: usize) -> usize
     requires { ⌜ start ≤ length (now text) ⌝ }
     ensures { λ r. ⌜ PlainTo (now (text .entry)) start r ⌝ }
@@ -55,7 +55,7 @@ fn by_eight(text: &[u8], start: usize) -> usize
     place
 }
 
-// The place after those that stand there.
+// The same one by one.
 fn one_by_one(text: &[u8], start: usize) -> usize
     requires { ⌜ start ≤ length (now text) ⌝ }
     ensures { λ r. ⌜ PlainTo (now (text .entry)) start r ⌝ }

@@ -58,7 +58,7 @@ enough (suc f) zero xs place ns h k = ap (λ (s : Step). turn s (walkFor f xs)) 
 enough (suc f) (suc g) xs place ns h k =
     same-turn xs place (walkFor f xs) (walkFor g xs) (λ next ms l. enough f g xs next ms (omega arith) (omega arith)) (stepFrom xs place ns) (onward xs place ns)
 
--- the walk, one tag at a time: after this nobody speaks of how many steps
+-- the walk is its first step, and then the walk from where that leads
 pub unfolds : (xs : List ℕ) (place : ℕ) (ns : List ℕ) → walkOn xs place ns ≡ turn (stepFrom xs place ns) (walkOn xs)
 unfolding walkOn walkFor
 unfolds xs place ns = enough (length xs) (suc (length xs)) xs place ns (omega arith) (omega arith)

@@ -1,4 +1,4 @@
--- What the private walks of a list and of an item promise: how the walk goes on from their answers, whatever blocks are open.
+-- About the code alone: how the walk goes on from what `walk_list` and `walk_item` answer, whatever blocks are open. No promise to a caller cites this.
 -- Assumes nothing.
 use Prim.Native.Nat.{ℕ, _+_, _^_, _≤_, _<_}
 use mathlib.Core.Path.{_≡_}

@@ -90,7 +90,7 @@ walkFrom xs place =
     (if (ltb (length xs) place) (ended (stopped 2 (amount place)))
     (walkOn xs place []))
 
--- what is reported of a walk: how many tags were accepted, and the outcome
+-- a report: how many tags were accepted, and the outcome
 pub record Report : Type 0 where
   pub tags : ℕ
   pub outcome : Outcome
@@ -98,6 +98,7 @@ pub record Report : Type 0 where
 abbrev pub report : ℕ → Outcome → Report
 report k o = record { tags = k; outcome = o }
 
+-- what is reported of a walk: the number of its tags, and its outcome
 abbrev pub reported : Walk → Report
 reported w = report (length (w .tags)) (w .outcome)
 

@@ -46,7 +46,7 @@ fn item_at(buf: &[u8], place: usize) -> TagRead
     }
 }
 
-// What a tag at a place does to the number of blocks open.
+// A tag with its depth and the blocks open after it, or 15 or 16 with its place.
 fn stands_at(place: usize, blocks: usize, tag: Tag, next: usize) -> TagAt
     ensures { λ r. ⌜ paperTagAt r ≡ standsAt place blocks (tagOf tag) next ⌝ }
 {

@@ -1,4 +1,4 @@
--- `bodies::step_at` meets its contract: at the end there is no tag, a plain item of one byte is passed by that byte, and else the answer of `decode` says which case of `stepFrom` holds.
+-- `bodies::step_at` meets its contract: at the end there is no tag, a plain item whose tag has one byte is passed by that byte, and else the answer of `decode` says which case of `stepFrom` holds.
 -- Assumes nothing.
 use borrow.Author.Needs.{needs}
 use native.Mathlib.Omega.{arith}
