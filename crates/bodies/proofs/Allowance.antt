@@ -29,11 +29,11 @@ module _ (n start : ℕ) (xs : List ℕ) where
   turn-smaller f g k place rest (onward d p) =
       ⊎-elim (λ e. inl e) (λ e. inr (e ∙ ap (λ (j : ℕ). counted (refused 14 (amount j)) j) (let z : k + 1 + f ≡ k + suc f = omega arith in z))) (rest d p)
 
-  scan-smaller : (f g k depth place : ℕ) → f ≤ g → SameOrSpent (k + f) (scanFrom f n start k depth xs place) (scanFrom g n start k depth xs place)
+  scan-smaller : (f g k unclosed place : ℕ) → f ≤ g → SameOrSpent (k + f) (scanFrom f n start k unclosed xs place) (scanFrom g n start k unclosed xs place)
   unfolding scanFrom
-  scan-smaller zero g k depth place h = inr (ap (λ (j : ℕ). counted (refused 14 (amount j)) j) (let z : k ≡ k + 0 = omega arith in z))
-  scan-smaller (suc f) zero k depth place h = absurd (omega arith)
-  scan-smaller (suc f) (suc g) k depth place h = turn-smaller f g k place (λ d p. scan-smaller f g (k + 1) d p (omega arith)) (stepFrom n depth xs place)
+  scan-smaller zero g k unclosed place h = inr (ap (λ (j : ℕ). counted (refused 14 (amount j)) j) (let z : k ≡ k + 0 = omega arith in z))
+  scan-smaller (suc f) zero k unclosed place h = absurd (omega arith)
+  scan-smaller (suc f) (suc g) k unclosed place h = turn-smaller f g k place (λ d p. scan-smaller f g (k + 1) d p (omega arith)) (stepFrom n unclosed xs place)
 
 scanned-smaller : (f g n : ℕ) (xs : List ℕ) (next : ℕ) → f ≤ g → SameOrSpent f (scanned f n xs next) (scanned g n xs next)
 scanned-smaller f g n xs next h = subst (λ (j : ℕ). SameOrSpent j (scanned f n xs next) (scanned g n xs next)) (let z : 0 + f ≡ f = omega arith in z) (scan-smaller n next xs f g 0 0 next h)

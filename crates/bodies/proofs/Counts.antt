@@ -44,7 +44,7 @@ count-within-for-tag expected allowance xs place =
     (λ t next e f. omega arith)
     (λ r c e. omega arith)
 
-why-counts : (allowance n next end : ℕ) (xs : List ℕ) {items : List Item} → read.Items xs next end items → {r : ℕ} {c : Carried} → Why allowance 0 xs end (length items) r c → read.Counts allowance xs n next (counted (refused r c) (length items))
+why-counts : (allowance n next end : ℕ) (xs : List ℕ) {items : List Item} → read.ItemsRead xs next end items → {r : ℕ} {c : Carried} → Why allowance 0 xs end (length items) r c → read.Counts allowance xs n next (counted (refused r c) (length items))
 why-counts allowance n next end xs {items} x (spent h) =
     subst (λ (j : ℕ). read.Counts allowance xs n next (counted (refused 14 (amount j)) (length items))) (let z : length items ≡ 0 + length items = omega arith in z) (read.spent x h)
 why-counts allowance n next end xs x (run-out h g) = read.run-out x g

@@ -14,7 +14,7 @@ use Rattle.tags.proofs.Exactly.{tag-found, moves-on}
 use Rattle.bodies.specs.Item.{Item}
 use Rattle.bodies.specs.Body.{BodyAt}
 use Rattle.bodies.specs.Scan.{Body, body, Counted, handed, scanned, bodyOf, bodyFrom}
-use Rattle.bodies.specs.Count.{part, Items}
+use Rattle.bodies.specs.Count.{part, ItemsRead}
 use Rattle.bodies.specs.View.{viewOf}
 use Rattle.bodies.specs.Given.{given}
 use Rattle.bodies.proofs.Scanned.{scan-hands, scan-says, Says, items-ahead}
@@ -104,10 +104,10 @@ module _ (xs : List ℕ) (place : ℕ) where
       let k : place + length (b .opener) ≡ place + length (b′ .opener) = h .0 in
       let j : length view ≡ length view′ = h .1 in
       let l : length items + 1 ≡ length items′ + 1 = h .4 in
-      let x : Items xs (place + length (b .opener)) (place + length (b .opener) + length view) items = body-placed xs small b .passed in
-      let x′ : Items xs (place + length (b′ .opener)) (place + length (b′ .opener) + length view′) items′ = body-placed xs small b′ .passed in
+      let x : ItemsRead xs (place + length (b .opener)) (place + length (b .opener) + length view) items = body-placed xs small b .passed in
+      let x′ : ItemsRead xs (place + length (b′ .opener)) (place + length (b′ .opener) + length view′) items′ = body-placed xs small b′ .passed in
       let v : view ≡ view′ = view-placed xs small b ∙ (ap₂ (λ (s p : ℕ). take s (drop p xs)) j k ∙ sym (view-placed xs small b′)) in
-      (h .2, v, same-items xs x (subst (λ (p : ℕ). Items xs p (place + length (b′ .opener) + length view′) items′) (sym k) x′) (omega arith))
+      (h .2, v, same-items xs x (subst (λ (p : ℕ). ItemsRead xs p (place + length (b′ .opener) + length view′) items′) (sym k) x′) (omega arith))
 
 -- a body is handed over exactly if one exists: with that number, its view there and so long, the place after its closing tag, and the items plus one as the count
 pub exactly : (xs : List ℕ) (place allowance : ℕ) → length xs ≤ 65535 → length xs ≤ allowance → (start size n next count : ℕ)

@@ -13,14 +13,14 @@ use Rattle.tags.specs.Header.{IsTag}
 use Rattle.tags.proofs.Exactly.{tag-found, tag-read, moves-on}
 use Rattle.bodies.specs.Item.{contentLength, Item}
 use Rattle.bodies.specs.Body.{Split, none, item, BodyAt}
-use Rattle.bodies.specs.Count.{part, itemAt, Items}
+use Rattle.bodies.specs.Count.{part, itemAt, ItemsRead}
 use Rattle.bodies.proofs.Balance.{Balanced}
 use Rattle.bodies.proofs.Scanned.{items-ahead}
 
 -- an opening tag, balanced items and a closing tag, each where the one before ends
 pub record Placed (xs : List ℕ) (place n next end after : ℕ) (items : List Item) : Type 0 where
   pub opened : tagFrom xs place ≡ accepted (tag (opening n) 0) next
-  pub passed : Items xs next end items
+  pub passed : ItemsRead xs next end items
   pub balanced : Balanced n 0 items
   pub closed : tagFrom xs end ≡ accepted (tag (closing n) 0) after
 
@@ -35,8 +35,8 @@ part-is xs place bytes rest e next h = ap (take (next - place)) e ∙ take-at by
 
 -- bytes to places
 module _ (xs : List ℕ) (small : length xs ≤ 65535) where
-  split-placed : {view : List ℕ} {items : List Item} → Split view items → (place : ℕ) (rest : List ℕ) → drop place xs ≡ view ++ rest → (end : ℕ) → end ≡ place + length view → Items xs place end items
-  split-placed none place rest e end h = subst (λ (j : ℕ). Items xs place j []) (let z : place ≡ end = omega arith in z) Items.none
+  split-placed : {view : List ℕ} {items : List Item} → Split view items → (place : ℕ) (rest : List ℕ) → drop place xs ≡ view ++ rest → (end : ℕ) → end ≡ place + length view → ItemsRead xs place end items
+  split-placed none place rest e end h = subst (λ (j : ℕ). ItemsRead xs place j []) (let z : place ≡ end = omega arith in z) ItemsRead.none
   split-placed (item i {rest = more} {items} t c s) place rest e end h =
       let next : ℕ = place + length (i .header) in
       let after : ℕ = next + contentLength (i .tag) in
@@ -46,8 +46,8 @@ module _ (xs : List ℕ) (small : length xs ≤ 65535) where
       let sized : length (i .header ++ (i .content ++ more)) ≡ length (i .header) + (length (i .content) + length more) = simp length-append in
       let same : itemAt xs place next (i .tag) ≡ i =
       ap₂ (λ (a b : List ℕ). record { tag = i .tag; header = a; content = b }) (part-is xs place (i .header) (i .content ++ (more ++ rest)) e₁ next refl) (part-is xs next (i .content) (more ++ rest) e₂ after (omega arith)) in
-      subst (λ (j : Item). Items xs place end (j ∷ items)) same
-      (Items.item (tag-read xs small place (i .tag) (i .header) (i .content ++ (more ++ rest)) e₁ t) (split-placed s after rest e₃ end (omega arith)))
+      subst (λ (j : Item). ItemsRead xs place end (j ∷ items)) same
+      (ItemsRead.item (tag-read xs small place (i .tag) (i .header) (i .content ++ (more ++ rest)) e₁ t) (split-placed s after rest e₃ end (omega arith)))
 
   body-here : {place n : ℕ} {view : List ℕ} {items : List Item} (b : BodyAt xs place n view items) → drop place xs ≡ b .opener ++ (view ++ (b .closer ++ b .after))
   body-here {place} {view = view} b = ap (drop place) (b .bytes) ∙ drop-at (b .before) (b .opener ++ (view ++ (b .closer ++ b .after))) place (b .at)
@@ -96,9 +96,9 @@ part-tag xs place t next e =
     let f = tag-found xs place t next e in
     subst (IsTag t) (sym (part-is xs place (f .bytes) (drop next xs) (f .here) next (f .ends))) (f .is-tag)
 
-placed-split : (xs : List ℕ) {place end : ℕ} {items : List Item} → Items xs place end items → end ≤ length xs → Split (part xs place end) items
-placed-split xs (Items.none {place}) l = subst (λ (j : ℕ). Split (take j (drop place xs)) []) (let z : 0 ≡ place - place = omega arith in z) none
-placed-split xs (Items.item {place} {next} {end} {t} {items} e x) l =
+placed-split : (xs : List ℕ) {place end : ℕ} {items : List Item} → ItemsRead xs place end items → end ≤ length xs → Split (part xs place end) items
+placed-split xs (ItemsRead.none {place}) l = subst (λ (j : ℕ). Split (take j (drop place xs)) []) (let z : 0 ≡ place - place = omega arith in z) none
+placed-split xs (ItemsRead.item {place} {next} {end} {t} {items} e x) l =
     let m = moves-on xs place t next e in
     let a = items-ahead xs x in
     let after : ℕ = next + contentLength t in
@@ -148,13 +148,13 @@ placed-body xs {place} {n} {next} {end} {after} {items} p =
     }
 
 -- one place, and so many items from there on: always the same
-pub same-items : (xs : List ℕ) {place end end′ : ℕ} {items items′ : List Item} → Items xs place end items → Items xs place end′ items′ → length items ≡ length items′ → items ≡ items′
-same-items xs Items.none Items.none h = refl
-same-items xs Items.none (Items.item e x) h = absurd (omega arith)
-same-items xs (Items.item e x) Items.none h = absurd (omega arith)
-same-items xs (Items.item {place} {next} {t = t} {items = items} e x) (Items.item {next = next′} {end = end′} {t = t′} {items = items′} e′ x′) h =
+pub same-items : (xs : List ℕ) {place end end′ : ℕ} {items items′ : List Item} → ItemsRead xs place end items → ItemsRead xs place end′ items′ → length items ≡ length items′ → items ≡ items′
+same-items xs ItemsRead.none ItemsRead.none h = refl
+same-items xs ItemsRead.none (ItemsRead.item e x) h = absurd (omega arith)
+same-items xs (ItemsRead.item e x) ItemsRead.none h = absurd (omega arith)
+same-items xs (ItemsRead.item {place} {next} {t = t} {items = items} e x) (ItemsRead.item {next = next′} {end = end′} {t = t′} {items = items′} e′ x′) h =
     let i : t ≡ t′ = cc in
     let j : next ≡ next′ = cc in
     let k : next′ + contentLength t′ ≡ next + contentLength t = cc in
-    let r : items ≡ items′ = same-items xs x (subst (λ (p : ℕ). Items xs p end′ items′) k x′) (omega arith) in
+    let r : items ≡ items′ = same-items xs x (subst (λ (p : ℕ). ItemsRead xs p end′ items′) k x′) (omega arith) in
     ap₂ (λ (a : Item) (b : List Item). a ∷ b) (ap₂ (λ (a : ℕ) (b : Tag). itemAt xs place a b) j i) r

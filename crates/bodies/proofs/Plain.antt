@@ -53,33 +53,33 @@ module _ (b : ℕ) (low : b % 8 ≤ 4) (few : b ≤ 247) where
     context-tag a =
         simp (le-ltb 65535 (length xs) small, le-ltb (length xs) place (omega arith), lt-leb (length xs) place inside, is, ne-eqb (b / 8 % 2) 0 (λ z. omega arith), ne-eqb (b / 16) 15 (λ z. omega arith), ne-eqb (b % 8) 6 (λ z. omega arith), ne-eqb (b % 8) 7 (λ z. omega arith), lt-ltb (b % 8) 5 (omega arith))
 
-    plain-goes : (n depth : ℕ) → stepFrom n depth xs place ≡ onward depth (place + plainLength b)
-    plain-goes n depth = by (eqb (b / 8 % 2) 0) refl
+    plain-goes : (n unclosed : ℕ) → stepFrom n unclosed xs place ≡ onward unclosed (place + plainLength b)
+    plain-goes n unclosed = by (eqb (b / 8 % 2) 0) refl
       where
-        by : (t : Bool) → eqb (b / 8 % 2) 0 ≡ t → stepFrom n depth xs place ≡ onward depth (place + plainLength b)
+        by : (t : Bool) → eqb (b / 8 % 2) 0 ≡ t → stepFrom n unclosed xs place ≡ onward unclosed (place + plainLength b)
         by true e =
             let a : b / 8 % 2 ≡ 0 = eqb-true (b / 8 % 2) 0 e in
             let l = application-length a in
-            step-by n depth xs place (tag (application (b / 16)) (b % 8)) (place + 1) (application-tag a)
-            ∙ ap (onward depth) (let z : place + 1 + contentOf (application (b / 16)) (b % 8) ≡ place + plainLength b = omega (arith, l) in z)
+            step-by n unclosed xs place (tag (application (b / 16)) (b % 8)) (place + 1) (application-tag a)
+            ∙ ap (onward unclosed) (let z : place + 1 + contentOf (application (b / 16)) (b % 8) ≡ place + plainLength b = omega (arith, l) in z)
         by false e =
             let f : b / 8 % 2 ≡ 0 → ⊥ = eqb-false (b / 8 % 2) 0 e in
             let a : b / 8 % 2 ≡ 1 = omega arith in
             let l = context-length a in
-            step-by n depth xs place (tag (context (b / 16)) (b % 8)) (place + 1) (context-tag a)
-            ∙ ap (onward depth) (let z : place + 1 + contentOf (context (b / 16)) (b % 8) ≡ place + plainLength b = omega (arith, l) in z)
+            step-by n unclosed xs place (tag (context (b / 16)) (b % 8)) (place + 1) (context-tag a)
+            ∙ ap (onward unclosed) (let z : place + 1 + contentOf (context (b / 16)) (b % 8) ≡ place + plainLength b = omega (arith, l) in z)
 
--- the scan goes on behind it at the same depth
-pub plain-step : (n depth : ℕ) (xs : List ℕ) (place : ℕ) → length xs ≤ 65535 → place < length xs → 0 < plainLength (getD xs place 0) → stepFrom n depth xs place ≡ onward depth (place + plainLength (getD xs place 0))
-plain-step n depth xs place small inside h =
+-- the scan goes on behind it with as many openings unclosed
+pub plain-step : (n unclosed : ℕ) (xs : List ℕ) (place : ℕ) → length xs ≤ 65535 → place < length xs → 0 < plainLength (getD xs place 0) → stepFrom n unclosed xs place ≡ onward unclosed (place + plainLength (getD xs place 0))
+plain-step n unclosed xs place small inside h =
     let s = short (getD xs place 0) h in
-    plain-goes (getD xs place 0) (s .0) (s .1) xs place small inside refl n depth
+    plain-goes (getD xs place 0) (s .0) (s .1) xs place small inside refl n unclosed
 
 -- at the end no byte is left
-pub end-step : (n depth : ℕ) (xs : List ℕ) (place : ℕ) → length xs ≤ 65535 → length xs ≤ place → stepFrom n depth xs place ≡ stopped 3 (amount (length xs))
+pub end-step : (n unclosed : ℕ) (xs : List ℕ) (place : ℕ) → length xs ≤ 65535 → length xs ≤ place → stepFrom n unclosed xs place ≡ stopped 3 (amount (length xs))
 unfolding stepFrom tagFrom byteFrom
-end-step n depth xs place small h = by (ltb (length xs) place) refl
+end-step n unclosed xs place small h = by (ltb (length xs) place) refl
   where
-    by : (t : Bool) → ltb (length xs) place ≡ t → if t (stopped 3 (amount (length xs))) (stepOf n depth (tagFrom xs place)) ≡ stopped 3 (amount (length xs))
+    by : (t : Bool) → ltb (length xs) place ≡ t → if t (stopped 3 (amount (length xs))) (stepOf n unclosed (tagFrom xs place)) ≡ stopped 3 (amount (length xs))
     by true e = refl
     by false e = simp (le-ltb 65535 (length xs) small, e, le-leb (length xs) place h)

@@ -20,9 +20,9 @@ abbrev pub itemAt : List ℕ → ℕ → ℕ → Tag → Item
 itemAt xs place next t = record { tag = t; header = part xs place next; content = part xs next (next + contentLength t) }
 
 -- from one place on tags are read, each behind the content of the one before, up to another place, which may be past the end
-pub data Items (xs : List ℕ) : ℕ → ℕ → List Item → Type 0 where
-  none : {place : ℕ} → Items xs place place []
-  item : {place next end : ℕ} {t : Tag} {items : List Item} → tagFrom xs place ≡ accepted t next → Items xs (next + contentLength t) end items → Items xs place end (itemAt xs place next t ∷ items)
+pub data ItemsRead (xs : List ℕ) : ℕ → ℕ → List Item → Type 0 where
+  none : {place : ℕ} → ItemsRead xs place place []
+  item : {place next end : ℕ} {t : Tag} {items : List Item} → tagFrom xs place ≡ accepted t next → ItemsRead xs (next + contentLength t) end items → ItemsRead xs place end (itemAt xs place next t ∷ items)
 
 -- no whole tag stands at a place: it is past the end, or the tag's bytes run out
 pub data NoTag (xs : List ℕ) (place : ℕ) : Carried → Type 0 where
@@ -32,9 +32,9 @@ pub data NoTag (xs : List ℕ) (place : ℕ) : Carried → Type 0 where
 -- an answer with its count, where an opening of n ends at a place: the items read, and the closing tag of a body;
 -- as many items as the allowance, where it is spent; or all items up to where no whole tag stands
 pub data Counts (allowance : ℕ) (xs : List ℕ) (n place : ℕ) : Counted → Type 0 where
-  body : {end next : ℕ} {items : List Item} → Items xs place end items → tagFrom xs end ≡ accepted (tag (closing n) 0) next → Counts allowance xs n place (handed place (end - place) n next (length items + 1))
-  spent : {end : ℕ} {items : List Item} → Items xs place end items → length items ≡ allowance → Counts allowance xs n place (counted (refused 14 (amount (length items))) (length items))
-  run-out : {end : ℕ} {items : List Item} {c : Carried} → Items xs place end items → NoTag xs end c → Counts allowance xs n place (counted (refused 3 c) (length items))
+  body : {end next : ℕ} {items : List Item} → ItemsRead xs place end items → tagFrom xs end ≡ accepted (tag (closing n) 0) next → Counts allowance xs n place (handed place (end - place) n next (length items + 1))
+  spent : {end : ℕ} {items : List Item} → ItemsRead xs place end items → length items ≡ allowance → Counts allowance xs n place (counted (refused 14 (amount (length items))) (length items))
+  run-out : {end : ℕ} {items : List Item} {c : Carried} → ItemsRead xs place end items → NoTag xs end c → Counts allowance xs n place (counted (refused 3 c) (length items))
 
 -- the count of an answer: as above, where an opening of a number that is wanted stands at the place; and 0 where none does
 pub data CountIs (wanted : ℕ → Type 0) (allowance : ℕ) (xs : List ℕ) (place : ℕ) (r : Counted) : Type 0 where

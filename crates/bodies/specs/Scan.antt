@@ -40,46 +40,46 @@ handed start size n next k = counted (accepted (body start size n) next) k
 abbrev pub unread : ℕ → Carried → Counted
 unread k c = counted (refused k c) 0
 
--- what the next tag means for a scan: a refusal; the closing tag of the body, with the place after it; or an item, with the depth (openings of n without their closing so far) and the place after it
+-- what the next tag means for a scan: a refusal; the closing tag of the body, with the place after it; or an item, with the openings of n that are unclosed so far and the place after it
 pub data Step : Type 0 where
   stopped : ℕ → Carried → Step
   closed : ℕ → Step
   onward : ℕ → ℕ → Step
 
--- by the tag's number: openings of n raise the depth, closings of n lower it, or end the body where it is 0
+-- by the tag's number: openings of n are counted as unclosed until their closing; a closing of n ends the body where none is
 abbrev pub stepBy : ℕ → ℕ → Number → ℕ → ℕ → Step
-stepBy n depth (opening m) next place = if (eqb m n) (onward (depth + 1) place) (onward depth place)
-stepBy n depth (closing m) next place =
-    if (eqb m n) (if (eqb depth 0) (closed next) (onward (depth - 1) place))
-    (onward depth place)
-stepBy n depth (application m) next place = onward depth place
-stepBy n depth (context m) next place = onward depth place
+stepBy n unclosed (opening m) next place = if (eqb m n) (onward (unclosed + 1) place) (onward unclosed place)
+stepBy n unclosed (closing m) next place =
+    if (eqb m n) (if (eqb unclosed 0) (closed next) (onward (unclosed - 1) place))
+    (onward unclosed place)
+stepBy n unclosed (application m) next place = onward unclosed place
+stepBy n unclosed (context m) next place = onward unclosed place
 
 -- by the tag, with the place after it
 unfoldable pub stepAfter : ℕ → ℕ → Tag → ℕ → Step
-stepAfter n depth t next = stepBy n depth (t .number) next (next + contentLength t)
+stepAfter n unclosed t next = stepBy n unclosed (t .number) next (next + contentLength t)
 
 abbrev pub stepOf : ℕ → ℕ → Answer Tag → Step
-stepOf n depth (accepted t next) = stepAfter n depth t next
-stepOf n depth (refused k c) = stopped k c
+stepOf n unclosed (accepted t next) = stepAfter n unclosed t next
+stepOf n unclosed (refused k c) = stopped k c
 
 -- by the tag at a place; where the content of the item before passed the end, 3 carries the buffer's length
 unfoldable pub stepFrom : ℕ → ℕ → List ℕ → ℕ → Step
-stepFrom n depth xs place =
+stepFrom n unclosed xs place =
     if (ltb (length xs) place) (stopped 3 (amount (length xs)))
-    (stepOf n depth (tagFrom xs place))
+    (stepOf n unclosed (tagFrom xs place))
 
 -- what a step leads to: an answer with k tags read, or with the closing tag one more, or what follows
 abbrev pub turn : ℕ → ℕ → ℕ → ℕ → Step → (ℕ → ℕ → Counted) → Counted
 turn n start k place (stopped r c) on = counted (refused r c) k
 turn n start k place (closed next) on = handed start (place - start) n next (k + 1)
-turn n start k place (onward depth after) on = on depth after
+turn n start k place (onward unclosed after) on = on unclosed after
 
--- the allowance that is left, the body's number, the view's start, the tags read, the depth, and a place of the buffer: before each tag the allowance is tested, then the tag is read
+-- the allowance that is left, the body's number, the view's start, the tags read, the openings unclosed, and a place of the buffer: before each tag the allowance is tested, then the tag is read
 unfoldable pub scanFrom : ℕ → ℕ → ℕ → ℕ → ℕ → List ℕ → ℕ → Counted
-scanFrom zero n start k depth xs place = counted (refused 14 (amount k)) k
-scanFrom (suc left) n start k depth xs place =
-    turn n start k place (stepFrom n depth xs place) (λ d p. scanFrom left n start (k + 1) d xs p)
+scanFrom zero n start k unclosed xs place = counted (refused 14 (amount k)) k
+scanFrom (suc left) n start k unclosed xs place =
+    turn n start k place (stepFrom n unclosed xs place) (λ d p. scanFrom left n start (k + 1) d xs p)
 
 -- a body whose opening tag ends at a place
 abbrev pub scanned : ℕ → ℕ → List ℕ → ℕ → Counted
@@ -111,7 +111,7 @@ bodyForFrom expected allowance xs place = bodyForOf expected allowance xs (expec
 abbrev pub paperStep : program.Step → Step
 paperStep (s.Refused r) = stopped (table r .number) (table r .carries)
 paperStep (s.Closed next) = closed next
-paperStep (s.Onward depth place) = onward depth place
+paperStep (s.Onward unclosed place) = onward unclosed place
 
 abbrev pub paperBody : BodyRead → Counted
 paperBody (b.Body start size n next tags) = handed start size n next tags

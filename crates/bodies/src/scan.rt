@@ -12,50 +12,50 @@ use types::Refusal;
 use types::Tag;
 use types::TagNumber;
 
-// What the next tag means for a scan: a refusal, the body's closing tag with the place after it, or an item with the depth and the place after it.
+// What the next tag means for a scan: a refusal, the body's closing tag with the place after it, or an item with the openings unclosed and the place after it.
 enum Step {
     Refused(Refusal),
     Closed(usize),
-    Onward { depth: usize, place: usize },
+    Onward { unclosed: usize, place: usize },
 }
 
 // What a tag that was read means for the scan of a body of that number, where so many more of its openings than closings were passed.
-fn step_after(number: u8, depth: usize, tag: Tag, next: usize) -> Step
-    requires { ⌜ (depth + 1 < 2 ^ 64) × (next + 2 ^ 32 < 2 ^ 64) ⌝ }
-    ensures { λ r. ⌜ paperStep r ≡ stepAfter number depth (tagOf tag) next ⌝ }
+fn step_after(number: u8, unclosed: usize, tag: Tag, next: usize) -> Step
+    requires { ⌜ (unclosed + 1 < 2 ^ 64) × (next + 2 ^ 32 < 2 ^ 64) ⌝ }
+    ensures { λ r. ⌜ paperStep r ≡ stepAfter number unclosed (tagOf tag) next ⌝ }
 {
     let place = next + content_length(tag);
     let found = tag.number;
     match found {
         TagNumber::ContextSpecificOpening(n) => if n == number {
             Step::Onward {
-                depth: depth + 1,
+                unclosed: unclosed + 1,
                 place,
             }
         } else {
-            Step::Onward { depth, place }
+            Step::Onward { unclosed, place }
         },
         TagNumber::ContextSpecificClosing(n) => if n == number {
-            if depth == 0 {
+            if unclosed == 0 {
                 Step::Closed(next)
             } else {
                 Step::Onward {
-                    depth: depth - 1,
+                    unclosed: unclosed - 1,
                     place,
                 }
             }
         } else {
-            Step::Onward { depth, place }
+            Step::Onward { unclosed, place }
         },
-        TagNumber::Application(_) => Step::Onward { depth, place },
-        TagNumber::ContextSpecific(_) => Step::Onward { depth, place },
+        TagNumber::Application(_) => Step::Onward { unclosed, place },
+        TagNumber::ContextSpecific(_) => Step::Onward { unclosed, place },
     }
 }
 
 // What the tag at a place, which may be past the end, means for the scan.
-fn step_at(number: u8, depth: usize, buf: &[u8], place: usize) -> Step
-    requires { ⌜ (depth + 1 < 2 ^ 64) × (length (now buf) ≤ 65535) ⌝ }
-    ensures { λ r. ⌜ paperStep r ≡ stepFrom number depth (now (buf .entry)) place ⌝ }
+fn step_at(number: u8, unclosed: usize, buf: &[u8], place: usize) -> Step
+    requires { ⌜ (unclosed + 1 < 2 ^ 64) × (length (now buf) ≤ 65535) ⌝ }
+    ensures { λ r. ⌜ paperStep r ≡ stepFrom number unclosed (now (buf .entry)) place ⌝ }
 {
     if buf.len() <= place {
         return Step::Refused(Refusal::BytesRunOut(buf.len()));
@@ -63,12 +63,12 @@ fn step_at(number: u8, depth: usize, buf: &[u8], place: usize) -> Step
     let plain = plain_length(buf[place]);
     if 0 < plain {
         return Step::Onward {
-            depth,
+            unclosed,
             place: place + plain,
         };
     }
     match tags::decode(buf, place) {
-        TagRead::Read(tag, next) => step_after(number, depth, tag, next),
+        TagRead::Read(tag, next) => step_after(number, unclosed, tag, next),
         TagRead::Refused(r) => Step::Refused(r),
     }
 }
@@ -79,10 +79,10 @@ pub(crate) fn scan(number: u8, allowance: usize, buf: &[u8], start: usize) -> Bo
     ensures { λ r. ⌜ paperBody r ≡ scanFrom allowance number start 0 0 (now (buf .entry)) start ⌝ }
 {
     let mut place = start;
-    let mut depth: usize = 0;
+    let mut unclosed: usize = 0;
     let mut tags: usize = 0;
     while tags < allowance {
-        match step_at(number, depth, buf, place) {
+        match step_at(number, unclosed, buf, place) {
             Step::Refused(refusal) => {
                 return BodyRead::Refused { refusal, tags };
             }
@@ -95,8 +95,11 @@ pub(crate) fn scan(number: u8, allowance: usize, buf: &[u8], start: usize) -> Bo
                     tags: tags + 1,
                 };
             }
-            Step::Onward { depth: d, place: p } => {
-                depth = d;
+            Step::Onward {
+                unclosed: d,
+                place: p,
+            } => {
+                unclosed = d;
                 place = p;
             }
         }

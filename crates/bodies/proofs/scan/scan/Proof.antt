@@ -10,10 +10,10 @@ use Rattle.bodies.proofs.scan.scan.Statement.{statement}
 use Rattle.bodies.proofs.scan.scan.Tie as tie
 
 abbrev Inv-loop : tie.InvT-loop
-Inv-loop number allowance buf start place₀ depth₀ tags₀ place depth tags = (tags ≤ allowance) × (depth ≤ tags) × (start ≤ place) × (scanFrom allowance number start 0 0 buf start ≡ scanFrom (allowance - tags) number start tags depth buf place)
+Inv-loop number allowance buf start place₀ unclosed₀ tags₀ place unclosed tags = (tags ≤ allowance) × (unclosed ≤ tags) × (start ≤ place) × (scanFrom allowance number start 0 0 buf start ≡ scanFrom (allowance - tags) number start tags unclosed buf place)
 
 abbrev μ-loop : tie.MeasureT-loop
-μ-loop number allowance buf start place₀ depth₀ tags₀ place depth tags = allowance - tags
+μ-loop number allowance buf start place₀ unclosed₀ tags₀ place unclosed tags = allowance - tags
 
 loop-holds : tie.Need-loop-holds Inv-loop μ-loop
 loop-holds c = (omega arith, omega arith, omega arith, none-spent _ _ _ _)
@@ -28,7 +28,7 @@ returns : tie.Need-returns Inv-loop μ-loop
 returns c =
     let l = c .before .before .before .before .before .loop in
     let a = c .before .before .before .before .before .before .before .args in
-    turned (a .number) (a .start) (a .allowance) (l .tags) (l .depth) (a .buf .now) (l .place) (l .inv .3) (c .before .before .before .before .loop-test .taken) (sym (c .before .before .before .step-at .ensures) ∙ ap paperStep (c .before .refusal .given .1))
+    turned (a .number) (a .start) (a .allowance) (l .tags) (l .unclosed) (a .buf .now) (l .place) (l .inv .3) (c .before .before .before .before .loop-test .taken) (sym (c .before .before .before .step-at .ensures) ∙ ap paperStep (c .before .refusal .given .1))
 
 enum-known-next : tie.Need-enum-known-next Inv-loop μ-loop
 enum-known-next c = search needs
@@ -43,7 +43,7 @@ returns-2 : tie.Need-returns-2 Inv-loop μ-loop
 returns-2 c =
     let l = c .before .before .before .before .before .loop in
     let a = c .before .before .before .before .before .before .before .args in
-    turned (a .number) (a .start) (a .allowance) (l .tags) (l .depth) (a .buf .now) (l .place) (l .inv .3) (c .before .before .before .before .loop-test .taken) (sym (c .before .before .before .step-at .ensures) ∙ ap paperStep (c .before .next .given .1))
+    turned (a .number) (a .start) (a .allowance) (l .tags) (l .unclosed) (a .buf .now) (l .place) (l .inv .3) (c .before .before .before .before .loop-test .taken) (sym (c .before .before .before .step-at .ensures) ∙ ap paperStep (c .before .next .given .1))
 
 enum-known-d : tie.Need-enum-known-d Inv-loop μ-loop
 enum-known-d c = search needs
@@ -58,15 +58,15 @@ loop-again : tie.Need-loop-again Inv-loop μ-loop
 loop-again c =
     let l = c .before .before .before .before .before .loop in
     let a = c .before .before .before .before .before .before .before .args in
-    let e : stepFrom (a .number) (l .depth) (a .buf .now) (l .place) ≡ onward (c .before .d .given .0 .0) (c .before .d .given .0 .1 .0) = sym (c .before .before .before .step-at .ensures) ∙ ap paperStep (c .before .d .given .1) in
-    let o : (c .before .d .given .0 .0 ≤ l .depth + 1) × (l .place < c .before .d .given .0 .1 .0) = onward-moves (a .number) (l .depth) (a .buf .now) (l .place) e in
-    (omega arith, omega arith, omega arith, sym (turned (a .number) (a .start) (a .allowance) (l .tags) (l .depth) (a .buf .now) (l .place) (l .inv .3) (c .before .before .before .before .loop-test .taken) e))
+    let e : stepFrom (a .number) (l .unclosed) (a .buf .now) (l .place) ≡ onward (c .before .d .given .0 .0) (c .before .d .given .0 .1 .0) = sym (c .before .before .before .step-at .ensures) ∙ ap paperStep (c .before .d .given .1) in
+    let o : (c .before .d .given .0 .0 ≤ l .unclosed + 1) × (l .place < c .before .d .given .0 .1 .0) = onward-moves (a .number) (l .unclosed) (a .buf .now) (l .place) e in
+    (omega arith, omega arith, omega arith, sym (turned (a .number) (a .start) (a .allowance) (l .tags) (l .unclosed) (a .buf .now) (l .place) (l .inv .3) (c .before .before .before .before .loop-test .taken) e))
 
 returns-3 : tie.Need-returns-3 Inv-loop μ-loop
 returns-3 c =
     let l = c .before .loop in
     let a = c .before .before .before .args in
-    spent (a .number) (a .start) (a .allowance) (l .tags) (l .depth) (a .buf .now) (l .place) (l .inv .3) (c .loop-test .left)
+    spent (a .number) (a .start) (a .allowance) (l .tags) (l .unclosed) (a .buf .now) (l .place) (l .inv .3) (c .loop-test .left)
 
 pub scan-spec : {M : Type 1} → statement M
 scan-spec = tie.close (tie.spec Inv-loop μ-loop loop-holds step-at-requires enum-known-refusal returns enum-known-next sub-t14 add-t15 returns-2 enum-known-d add-tags loop-less loop-again returns-3)

@@ -18,7 +18,7 @@ ends : (c : tie.After-tag) → c .tag .given .0 .1 .0 ≤ length (c .before .bef
 ends c = let a = c .before .before .before .before .before .before .before .before .args in moves-on (a .buf .now) (a .place) _ _ (sym (c .before .before .decode .ensures) ∙ ap paperTag (c .tag .given .1)) .2
 
 returns : tie.Need-returns
-returns c = let a = c .before .before .args in sym (end-step (a .number) (a .depth) (a .buf .now) (a .place) (omega arith) (c .if1 .taken))
+returns c = let a = c .before .before .args in sym (end-step (a .number) (a .unclosed) (a .buf .now) (a .place) (omega arith) (c .if1 .taken))
 
 shared-slice-read-plain-length : tie.Need-shared-slice-read-plain-length
 shared-slice-read-plain-length c = search needs
@@ -34,7 +34,7 @@ returns-2 c =
     let a = c .before .before .before .before .before .args in
     let e = c .before .plain-length .ensures .0 in
     let h = c .if2 .taken in
-    rw e (sym (plain-step (a .number) (a .depth) (a .buf .now) (a .place) (omega arith) (omega arith) (rw e at h)))
+    rw e (sym (plain-step (a .number) (a .unclosed) (a .buf .now) (a .place) (omega arith) (omega arith) (rw e at h)))
 
 decode-requires : tie.Need-decode-requires
 decode-requires c κs = search needs
