@@ -4,15 +4,10 @@ ghost use Rattle.io.specs.Counts.{Counts};
 use bodies::BodyRead;
 use headers::Header;
 use headers::HeaderRead;
+use types::Carried;
 use types::Outcome;
 use types::Refusal;
 use values::ValueRead;
-
-// What a refusal carries: a number, which is 0 where document 01's table says 0, or the tag found.
-enum Carried {
-    Number(u64),
-    TagFound,
-}
 
 // The value of a hexadecimal digit, a letter in capitals; any other byte counts as 0.
 fn digit(byte: u8) -> u8
@@ -42,31 +37,6 @@ fn decode(digits: &[u8], buf: &mut [u8]) -> usize
     count
 }
 
-// What a refusal carries.
-fn carried_by(refusal: Refusal) -> Carried {
-    match refusal {
-        Refusal::BufferTooLong(n) => Carried::Number(n as u64),
-        Refusal::PlacePastEnd(n) => Carried::Number(n as u64),
-        Refusal::BytesRunOut(n) => Carried::Number(n as u64),
-        Refusal::OtherTagNumber(_) => Carried::TagFound,
-        Refusal::OtherTagValue(_) => Carried::TagFound,
-        Refusal::NoOpeningTag(_) => Carried::TagFound,
-        Refusal::LengthNotAllowed(n) => Carried::Number(n as u64),
-        Refusal::NotAValueTag(_) => Carried::TagFound,
-        Refusal::OtherCharacterSet(n) => Carried::Number(n as u64),
-        Refusal::TextNotUtf8(n) => Carried::Number(n as u64),
-        Refusal::ServiceChoiceTooLarge(n) => Carried::Number(n as u64),
-        Refusal::CannotBeWritten => Carried::Number(0),
-        Refusal::NoRoom(n) => Carried::Number(n as u64),
-        Refusal::AllowanceSpent(n) => Carried::Number(n as u64),
-        Refusal::ClosingWithoutOpening(n) => Carried::Number(n as u64),
-        Refusal::TooManyBlocksOpen(n) => Carried::Number(n as u64),
-        Refusal::OtherPduType(n) => Carried::Number(n as u64),
-        Refusal::EnumeratedTooLarge => Carried::Number(0),
-        Refusal::LineNotHexadecimal => Carried::Number(0),
-    }
-}
-
 // Prints a space and a number.
 fn print_word(number: u64) {
     io::write_all(1, b" ");
@@ -77,11 +47,11 @@ fn print_word(number: u64) {
 fn print_refusal(refusal: Refusal) {
     io::write_all(1, b"refused");
     print_word(refusal.number() as u64);
-    match carried_by(refusal) {
-        Carried::Number(n) => {
-            print_word(n);
+    match refusal.carried() {
+        Carried::Amount(n) => {
+            print_word(n as u64);
         }
-        Carried::TagFound => {}
+        Carried::TagFound(_) => {}
     }
 }
 

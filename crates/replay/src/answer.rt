@@ -1,5 +1,6 @@
 // An answer, built word by word and handed on by value; its room is more than the words of any answer take.
 ghost use Prim.Native.Nat.{_^_, _<_};
+use types::Carried;
 use types::Refusal;
 use types::Tag;
 use types::TagNumber;
@@ -47,25 +48,6 @@ fn number_of(number: TagNumber) -> u8 {
         TagNumber::ContextSpecific(n) => n,
         TagNumber::ContextSpecificOpening(n) => n,
         TagNumber::ContextSpecificClosing(n) => n,
-    }
-}
-
-// The number that a refusal carries; 0 where it carries a tag, or where document 01's table says 0.
-fn number_carried(refusal: Refusal) -> u64 {
-    match refusal {
-        Refusal::BufferTooLong(n) => n as u64,
-        Refusal::PlacePastEnd(n) => n as u64,
-        Refusal::BytesRunOut(n) => n as u64,
-        Refusal::LengthNotAllowed(n) => n as u64,
-        Refusal::OtherCharacterSet(n) => n as u64,
-        Refusal::TextNotUtf8(n) => n as u64,
-        Refusal::ServiceChoiceTooLarge(n) => n as u64,
-        Refusal::NoRoom(n) => n as u64,
-        Refusal::AllowanceSpent(n) => n as u64,
-        Refusal::ClosingWithoutOpening(n) => n as u64,
-        Refusal::TooManyBlocksOpen(n) => n as u64,
-        Refusal::OtherPduType(n) => n as u64,
-        _ => 0,
     }
 }
 
@@ -144,12 +126,9 @@ impl Answer {
     // The answer that refuses: the refusal's number and what it carries.
     pub(crate) fn refused(refusal: Refusal) -> Answer {
         let answer = Answer::new(b"refused").number(refusal.number() as u64);
-        match refusal {
-            Refusal::OtherTagNumber(tag) => answer.tag(tag),
-            Refusal::OtherTagValue(tag) => answer.tag(tag),
-            Refusal::NoOpeningTag(tag) => answer.tag(tag),
-            Refusal::NotAValueTag(tag) => answer.tag(tag),
-            _ => answer.number(number_carried(refusal)),
+        match refusal.carried() {
+            Carried::Amount(n) => answer.number(n as u64),
+            Carried::TagFound(tag) => answer.tag(tag),
         }
     }
 }

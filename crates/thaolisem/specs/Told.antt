@@ -6,7 +6,7 @@ use mathlib.Core.List.{List, [], _∷_}
 use lib.IntN.{ℤ}
 use lib.ListN.{getD}
 use lib.Ieee.{binary32, binary64, toBits}
-use Rattle.types.specs.Tag.{Number, application, context, opening, closing, Tag, tagOf}
+use Rattle.types.specs.Tag.{Number, application, context, opening, closing, Tag}
 use Rattle.types.specs.Refusal.{Carried, amount, tagFound}
 use Rattle.types.specs.Answer.{Answer, accepted, refused, Outcome, passed, stopped}
 use Rattle.numbers.specs.Integer.{patternOf}
@@ -16,8 +16,6 @@ use Rattle.walk.specs.Walk.{Report}
 use Rattle.utf8.specs.Check.{Verdict, good, badAt}
 use Rattle.values.specs.Value as values
 use Rattle.headers.specs.Header as headers
-use Rattle.thaolisem.specs.declared.answer.Carried as program
-use Rattle.thaolisem.specs.declared.answer.Carried.the-variants as p
 
 -- eight numbers
 abbrev pub eight : ℕ → ℕ → ℕ → ℕ → ℕ → ℕ → ℕ → ℕ → List ℕ
@@ -118,8 +116,3 @@ toldCheck (badAt place) = toldRefusal 10 (amount place) 0
 abbrev pub toldWrite : Answer (Unit {0}) → List ℕ
 toldWrite (accepted u next) = eight 0 next 0 0 0 0 0 0
 toldWrite (refused n c) = toldRefusal n c 0
-
--- the program's enum for what a refusal carries
-abbrev pub carriedOf : program.Carried → Carried
-carriedOf (p.Amount n) = amount n
-carriedOf (p.TagFound t) = tagFound (tagOf t)

@@ -3,45 +3,12 @@ ghost use mathlib.Core.Path.{_≡_};
 ghost use Rattle.types.specs.Tag.{numberOf};
 ghost use Rattle.types.specs.Refusal.{table};
 ghost use Rattle.types.specs.Writing.{paperWritten, writeAnswer};
-ghost use Rattle.thaolisem.specs.Told.{classOf, numberIn, carriedOf, toldRefusal, toldWrite};
+ghost use Rattle.thaolisem.specs.Told.{classOf, numberIn, toldRefusal, toldWrite};
 ghost use Rattle.thaolisem.specs.Named.{never};
+use types::Carried;
 use types::Refusal;
-use types::Tag;
 use types::TagNumber;
 use types::Written;
-
-// What a refusal carries: a number, which is 0 where document 01's table says 0, or the tag found.
-enum Carried {
-    Amount(usize),
-    TagFound(Tag),
-}
-
-// What a refusal carries.
-fn carried_by(refusal: Refusal) -> Carried
-    ensures { λ r. ⌜ carriedOf r ≡ table refusal .carries ⌝ }
-{
-    match refusal {
-        Refusal::BufferTooLong(n) => Carried::Amount(n),
-        Refusal::PlacePastEnd(n) => Carried::Amount(n),
-        Refusal::BytesRunOut(n) => Carried::Amount(n),
-        Refusal::OtherTagNumber(tag) => Carried::TagFound(tag),
-        Refusal::OtherTagValue(tag) => Carried::TagFound(tag),
-        Refusal::NoOpeningTag(tag) => Carried::TagFound(tag),
-        Refusal::LengthNotAllowed(n) => Carried::Amount(n as usize),
-        Refusal::NotAValueTag(tag) => Carried::TagFound(tag),
-        Refusal::OtherCharacterSet(n) => Carried::Amount(n as usize),
-        Refusal::TextNotUtf8(n) => Carried::Amount(n),
-        Refusal::ServiceChoiceTooLarge(n) => Carried::Amount(n as usize),
-        Refusal::CannotBeWritten => Carried::Amount(0),
-        Refusal::NoRoom(n) => Carried::Amount(n),
-        Refusal::AllowanceSpent(n) => Carried::Amount(n),
-        Refusal::ClosingWithoutOpening(n) => Carried::Amount(n),
-        Refusal::TooManyBlocksOpen(n) => Carried::Amount(n),
-        Refusal::OtherPduType(n) => Carried::Amount(n as usize),
-        Refusal::EnumeratedTooLarge => Carried::Amount(0),
-        Refusal::LineNotHexadecimal => Carried::Amount(0),
-    }
-}
 
 // The number of a tag's class.
 pub(crate) fn class_of(number: TagNumber) -> u64
@@ -72,7 +39,7 @@ pub(crate) fn refused(refusal: Refusal, tags: usize) -> [u64; 8]
     ensures { λ r. ⌜ r ≡ toldRefusal (table refusal .number) (table refusal .carries) tags ⌝ }
 {
     let n = refusal.number() as u64;
-    match carried_by(refusal) {
+    match refusal.carried() {
         Carried::Amount(amount) => [n, 0, amount as u64, 0, tags as u64, 0, 0, 0],
         Carried::TagFound(tag) => {
             let number = tag.number;

@@ -1,11 +1,11 @@
--- The paper's answer tells the program's: no two tags, refusals or answers are the same on paper, so each promise admits a single one.
+-- The paper's answer tells the program's: no two tags, refusals, things carried or answers are the same on paper, so each promise admits a single one.
 -- Assumes nothing.
 use mathlib.Core.Path.{_≡_, refl, _∙_, ap, sym}
 use Prim.Native.Nat.{ℕ}
 use lib.Dec.{eqb}
 use Rattle.types.specs.Choice.{if}
 use Rattle.types.specs.Tag.{Number, application, context, opening, closing, Tag, applicationOf, numberOf, tagOf}
-use Rattle.types.specs.Refusal.{Carried, amount, tagFound, Row, row, table}
+use Rattle.types.specs.Refusal.{Carried, amount, tagFound, Row, row, table, carriedOf}
 use Rattle.types.specs.Answer.{Answer, accepted, refused, refusal, Outcome, passed, stopped, paperOutcome}
 use Rattle.types.specs.Writing.{paperWritten}
 use Rattle.types.specs.declared.tag.ApplicationTagNumber.{ApplicationTagNumber}
@@ -15,6 +15,8 @@ use Rattle.types.specs.declared.tag.TagNumber.the-variants as n
 use Rattle.types.specs.declared.tag.Tag as program
 use Rattle.types.specs.declared.refusal.Refusal.{Refusal}
 use Rattle.types.specs.declared.refusal.Refusal.the-variants as r
+use Rattle.types.specs.declared.carried.Carried as program-carried
+use Rattle.types.specs.declared.carried.Carried.the-variants as c
 use Rattle.types.specs.declared.outcome.Outcome as program-outcome
 use Rattle.types.specs.declared.outcome.Outcome.the-variants as o
 use Rattle.types.specs.declared.written.Written.{Written}
@@ -70,6 +72,18 @@ tag-back x = ap (λ (k : TagNumber). record { number = k; value = x .value }) (n
 -- no two tags are the same on paper
 pub single-tag : (x y : program.Tag) → tagOf x ≡ tagOf y → x ≡ y
 single-tag = told-apart tagOf programTag tag-back
+
+abbrev carried : Carried → program-carried.Carried
+carried (amount n) = c.Amount n
+carried (tagFound t) = c.TagFound (programTag t)
+
+carried-back : (x : program-carried.Carried) → carried (carriedOf x) ≡ x
+carried-back (c.Amount n) = refl
+carried-back (c.TagFound t) = ap c.TagFound (tag-back t)
+
+-- no two things that a refusal carries are the same on paper
+pub single-carried : (x y : program-carried.Carried) → carriedOf x ≡ carriedOf y → x ≡ y
+single-carried = told-apart carriedOf carried carried-back
 
 abbrev byAmount : ℕ → ℕ → Refusal
 byAmount k c =

@@ -4,6 +4,8 @@ use Prim.Native.Nat.{ℕ}
 use Rattle.types.specs.Tag.{Tag, tagOf}
 use Rattle.types.specs.declared.refusal.Refusal.{Refusal}
 use Rattle.types.specs.declared.refusal.Refusal.the-variants as r
+use Rattle.types.specs.declared.carried.Carried as program
+use Rattle.types.specs.declared.carried.Carried.the-variants as c
 
 -- what a refusal carries: a number, or the tag found
 pub data Carried : Type 0 where
@@ -37,3 +39,8 @@ table (r.TooManyBlocksOpen place) = row 16 (amount place)
 table (r.OtherPduType control) = row 17 (amount control)
 table r.EnumeratedTooLarge = row 18 (amount 0)
 table r.LineNotHexadecimal = row 19 (amount 0)
+
+-- the program's enum for what a refusal carries
+abbrev pub carriedOf : program.Carried → Carried
+carriedOf (c.Amount n) = amount n
+carriedOf (c.TagFound t) = tagFound (tagOf t)

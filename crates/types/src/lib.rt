@@ -1,9 +1,11 @@
 // The types that all layers share: tags, refusals, and what a check or a writer answers.
+mod carried;
 mod outcome;
 mod refusal;
 mod tag;
 mod written;
 
+pub use carried::Carried;
 pub use outcome::Outcome;
 pub use refusal::Refusal;
 pub use tag::ApplicationTagNumber;

@@ -1,6 +1,7 @@
 // Refusals: why a call gives no value.
 ghost use mathlib.Core.Path.{_≡_};
-ghost use Rattle.types.specs.Refusal.{table};
+ghost use Rattle.types.specs.Refusal.{table, carriedOf};
+use crate::carried::Carried;
 use crate::tag::Tag;
 
 // Document 01's refusals, in its table's order, each with what it carries.
@@ -67,6 +68,33 @@ impl Refusal {
             Refusal::OtherPduType(_) => 17,
             Refusal::EnumeratedTooLarge => 18,
             Refusal::LineNotHexadecimal => 19,
+        }
+    }
+
+    // What the refusal carries.
+    pub fn carried(self) -> Carried
+        ensures { λ r. ⌜ carriedOf r ≡ table self .carries ⌝ }
+    {
+        match self {
+            Refusal::BufferTooLong(n) => Carried::Amount(n),
+            Refusal::PlacePastEnd(n) => Carried::Amount(n),
+            Refusal::BytesRunOut(n) => Carried::Amount(n),
+            Refusal::OtherTagNumber(tag) => Carried::TagFound(tag),
+            Refusal::OtherTagValue(tag) => Carried::TagFound(tag),
+            Refusal::NoOpeningTag(tag) => Carried::TagFound(tag),
+            Refusal::LengthNotAllowed(n) => Carried::Amount(n as usize),
+            Refusal::NotAValueTag(tag) => Carried::TagFound(tag),
+            Refusal::OtherCharacterSet(n) => Carried::Amount(n as usize),
+            Refusal::TextNotUtf8(n) => Carried::Amount(n),
+            Refusal::ServiceChoiceTooLarge(n) => Carried::Amount(n as usize),
+            Refusal::CannotBeWritten => Carried::Amount(0),
+            Refusal::NoRoom(n) => Carried::Amount(n),
+            Refusal::AllowanceSpent(n) => Carried::Amount(n),
+            Refusal::ClosingWithoutOpening(n) => Carried::Amount(n),
+            Refusal::TooManyBlocksOpen(n) => Carried::Amount(n),
+            Refusal::OtherPduType(n) => Carried::Amount(n as usize),
+            Refusal::EnumeratedTooLarge => Carried::Amount(0),
+            Refusal::LineNotHexadecimal => Carried::Amount(0),
         }
     }
 }

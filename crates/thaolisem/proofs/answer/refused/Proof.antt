@@ -2,7 +2,7 @@
 -- Assumes nothing.
 use borrow.Author.Needs.{needs}
 use mathlib.Core.Path.{sym, ap, _∙_}
-use Rattle.thaolisem.specs.Told.{carriedOf}
+use Rattle.types.specs.Refusal.{carriedOf}
 use Rattle.thaolisem.proofs.answer.refused.Statement.{statement}
 use Rattle.thaolisem.proofs.answer.refused.Tie as tie
 
@@ -12,8 +12,8 @@ number-requires c κs = search needs
 cast-n : tie.Need-cast-n
 cast-n c = search needs
 
-carried-by-requires : tie.Need-carried-by-requires
-carried-by-requires c κs = search needs
+carried-requires : tie.Need-carried-requires
+carried-requires c κs = search needs
 
 enum-known-amount : tie.Need-enum-known-amount
 enum-known-amount c = search needs
@@ -31,10 +31,10 @@ cast-t14 : tie.Need-cast-t14
 cast-t14 c = search needs
 
 returns : tie.Need-returns
-returns c = simp (c .before .before .before .before .number .ensures, sym (c .before .before .before .carried-by .ensures) ∙ ap carriedOf (c .before .amount .given .1))
+returns c = simp (c .before .before .before .before .number .ensures, sym (c .before .before .before .carried .ensures) ∙ ap carriedOf (c .before .amount .given .1))
 
 returns-2 : tie.Need-returns-2
-returns-2 c = simp (c .before .before .before .before .before .before .before .number .ensures, c .before .number-in .ensures, c .before .before .class-of .ensures, sym (c .before .before .before .before .before .before .carried-by .ensures) ∙ ap carriedOf (c .before .before .before .before .tag .given .1))
+returns-2 c = simp (c .before .before .before .before .before .before .before .number .ensures, c .before .number-in .ensures, c .before .before .class-of .ensures, sym (c .before .before .before .before .before .before .carried .ensures) ∙ ap carriedOf (c .before .before .before .before .tag .given .1))
 
 pub refused-spec : {M : Type 1} → statement M
 refused-spec =
@@ -42,7 +42,7 @@ refused-spec =
     (tie.spec
     number-requires
     cast-n
-    carried-by-requires
+    carried-requires
     enum-known-amount
     enum-known-tag
     class-of-requires
