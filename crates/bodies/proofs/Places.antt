@@ -8,6 +8,7 @@ use lib.ListN.{length, take, drop, take-append-drop, length-append, length-drop}
 use lib.Seq.{length-take-le, take-at, drop-at, take-add, drop-drop}
 use Rattle.types.specs.Tag.{opening, closing, Tag, tag}
 use Rattle.types.specs.Answer.{accepted}
+use Rattle.numbers.proofs.Found.{behind}
 use Rattle.tags.specs.Reading.{tagFrom}
 use Rattle.tags.specs.Header.{IsTag}
 use Rattle.tags.proofs.Exactly.{tag-found, tag-read, moves-on}
@@ -24,10 +25,9 @@ pub record Placed (xs : List ℕ) (place n next end after : ℕ) (items : List I
   pub balanced : Balanced n 0 items
   pub closed : tagFrom xs end ≡ accepted (tag (closing n) 0) after
 
--- what stands behind bytes that stand at a place
-behind : (xs : List ℕ) (place : ℕ) (bytes rest : List ℕ) → drop place xs ≡ bytes ++ rest → (next : ℕ) → next ≡ place + length bytes → drop next xs ≡ rest
-behind xs place bytes rest e next h =
-    ap (λ (j : ℕ). drop j xs) h ∙ sym (drop-drop (length bytes) place xs) ∙ ap (drop (length bytes)) e ∙ drop-at bytes rest (length bytes) refl
+-- what stands behind bytes that stand at a place, where they end
+behind-end : (xs : List ℕ) (place : ℕ) (bytes rest : List ℕ) → drop place xs ≡ bytes ++ rest → (next : ℕ) → next ≡ place + length bytes → drop next xs ≡ rest
+behind-end xs place bytes rest e next h = ap (λ (j : ℕ). drop j xs) h ∙ behind xs place bytes rest e
 
 -- bytes that stand at a place are the part from there to their end
 part-is : (xs : List ℕ) (place : ℕ) (bytes rest : List ℕ) → drop place xs ≡ bytes ++ rest → (next : ℕ) → next ≡ place + length bytes → part xs place next ≡ bytes
@@ -41,8 +41,8 @@ module _ (xs : List ℕ) (small : length xs ≤ 65535) where
       let next : ℕ = place + length (i .header) in
       let after : ℕ = next + contentLength (i .tag) in
       let e₁ : drop place xs ≡ i .header ++ (i .content ++ (more ++ rest)) = e ∙ simp append-assoc in
-      let e₂ : drop next xs ≡ i .content ++ (more ++ rest) = behind xs place (i .header) (i .content ++ (more ++ rest)) e₁ next refl in
-      let e₃ : drop after xs ≡ more ++ rest = behind xs next (i .content) (more ++ rest) e₂ after (omega arith) in
+      let e₂ : drop next xs ≡ i .content ++ (more ++ rest) = behind-end xs place (i .header) (i .content ++ (more ++ rest)) e₁ next refl in
+      let e₃ : drop after xs ≡ more ++ rest = behind-end xs next (i .content) (more ++ rest) e₂ after (omega arith) in
       let sized : length (i .header ++ (i .content ++ more)) ≡ length (i .header) + (length (i .content) + length more) = simp length-append in
       let same : itemAt xs place next (i .tag) ≡ i =
       ap₂ (λ (a b : List ℕ). record { tag = i .tag; header = a; content = b }) (part-is xs place (i .header) (i .content ++ (more ++ rest)) e₁ next refl) (part-is xs next (i .content) (more ++ rest) e₂ after (omega arith)) in
@@ -56,7 +56,7 @@ module _ (xs : List ℕ) (small : length xs ≤ 65535) where
   pub view-placed : {place n : ℕ} {view : List ℕ} {items : List Item} (b : BodyAt xs place n view items) → view ≡ take (length view) (drop (place + length (b .opener)) xs)
   view-placed {place} {n} {view} b =
       let next : ℕ = place + length (b .opener) in
-      let e : drop next xs ≡ view ++ (b .closer ++ b .after) = behind xs place (b .opener) (view ++ (b .closer ++ b .after)) (body-here b) next refl in
+      let e : drop next xs ≡ view ++ (b .closer ++ b .after) = behind-end xs place (b .opener) (view ++ (b .closer ++ b .after)) (body-here b) next refl in
       sym (ap (take (length view)) e ∙ take-at view (b .closer ++ b .after) (length view) refl)
 
   -- a body of the definition lies so
@@ -66,8 +66,8 @@ module _ (xs : List ℕ) (small : length xs ≤ 65535) where
       let next : ℕ = place + length (b .opener) in
       let end : ℕ = next + length view in
       let e₁ : drop place xs ≡ b .opener ++ (view ++ (b .closer ++ b .after)) = body-here b in
-      let e₂ : drop next xs ≡ view ++ (b .closer ++ b .after) = behind xs place (b .opener) (view ++ (b .closer ++ b .after)) e₁ next refl in
-      let e₃ : drop end xs ≡ b .closer ++ b .after = behind xs next view (b .closer ++ b .after) e₂ end refl in
+      let e₂ : drop next xs ≡ view ++ (b .closer ++ b .after) = behind-end xs place (b .opener) (view ++ (b .closer ++ b .after)) e₁ next refl in
+      let e₃ : drop end xs ≡ b .closer ++ b .after = behind-end xs next view (b .closer ++ b .after) e₂ end refl in
       record {
         opened = tag-read xs small place (tag (opening n) 0) (b .opener) (view ++ (b .closer ++ b .after)) e₁ (b .opened);
         passed = split-placed (b .splits) next (b .closer ++ b .after) e₂ end refl;

@@ -50,12 +50,13 @@ signed-holds z h = rw (signed-as-unsigned z) (length-holds (mag z * 2) (omega ar
 pub signed-between : (z : ℤ) → (1 ≤ signedLength z) × (signedLength z ≤ 8)
 signed-between z = rw (signed-as-unsigned z) (length-between (mag z * 2))
 
--- the pattern of a number that n bytes hold fits them, and stands for it in two's complement, for every n
+-- the pattern of a number that n bytes hold fits them, for every n
 pattern-lt : (n : ℕ) (z : ℤ) → mag z * 2 < 256 ^ n → patternOf n z < 256 ^ n
 pattern-lt n (pos k) h = omega arith
 pattern-lt n (negsuc k) h = omega arith
 
-pattern-back : (n : ℕ) (z : ℤ) → 1 ≤ n → mag z * 2 < 256 ^ n → twosComplement n (patternOf n z) ≡ z
+-- a pattern in n bytes stands for its integer in two's complement
+pub pattern-back : (n : ℕ) (z : ℤ) → 1 ≤ n → mag z * 2 < 256 ^ n → twosComplement n (patternOf n z) ≡ z
 pattern-back n (pos k) l h = simp (lt-ltb (k * 2) (256 ^ n) h)
 pattern-back zero (negsuc k) l h = absurd (omega arith)
 pattern-back (suc n) (negsuc k) l h =

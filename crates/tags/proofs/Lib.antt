@@ -3,6 +3,7 @@ pub mod OneByte
 pub mod Begun
 pub mod Item
 pub mod Exactly
+pub mod OneTag
 pub mod Range
 pub mod Back
 pub mod Single

@@ -33,7 +33,8 @@ named k =
     (if (eqb k 8) a.BitString (if (eqb k 9) a.Enumerated (if (eqb k 10) a.Date (if (eqb k 11) a.Time
     (if (eqb k 12) a.ObjectId (if (eqb k 13) a.Reserve1 (if (eqb k 14) a.Reserve2 a.Reserve3))))))))))))))
 
-named-back : (x : ApplicationTagNumber) → named (applicationOf x) ≡ x
+-- each name is known by its number
+pub named-back : (x : ApplicationTagNumber) → named (applicationOf x) ≡ x
 named-back a.Null = refl
 named-back a.Boolean = refl
 named-back a.UnsignedInt = refl

@@ -1,4 +1,4 @@
--- What a reader or a check answers, on paper: a value with the place after it, or a refusal's number with what it carries.
+-- What a reader or a check answers, on paper: a value with the place after it, or a refusal's number with what it carries (document 01, "Refusal numbers").
 -- Assumes nothing.
 use Prim.Native.Nat.{ℕ}
 use mathlib.Core.List.{List}

@@ -19,6 +19,7 @@ pub record Row : Type 0 where
 abbrev pub row : ℕ → Carried → Row
 row n c = record { number = n; carries = c }
 
+-- each refusal's number and what it carries
 abbrev pub table : Refusal → Row
 table (r.BufferTooLong length) = row 1 (amount length)
 table (r.PlacePastEnd place) = row 2 (amount place)

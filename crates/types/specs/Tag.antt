@@ -46,5 +46,6 @@ numberOf (n.ContextSpecific k) = context k
 numberOf (n.ContextSpecificOpening k) = opening k
 numberOf (n.ContextSpecificClosing k) = closing k
 
+-- a tag of the program, on paper
 abbrev pub tagOf : program.Tag → Tag
 tagOf t = tag (numberOf (t .number)) (t .value)

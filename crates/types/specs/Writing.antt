@@ -1,4 +1,4 @@
--- What a writer answers and leaves, on paper.
+-- What a writer answers and leaves, on paper (document 01, "Refusal numbers").
 -- Assumes nothing.
 use Prim.Native.Nat.{ℕ, _+_}
 use mathlib.Core.List.{List, _++_}

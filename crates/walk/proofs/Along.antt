@@ -12,7 +12,8 @@ use Rattle.walk.specs.Tag.{itemFrom}
 use Rattle.walk.specs.Walk.{Seen, seen, Walk, walked, more, Step, stepBy, stepOf, turn, walkOn}
 use Rattle.walk.specs.Grammar.{Plain, Items}
 use Rattle.walk.specs.Grammar.Items.{none, plain, block}
-use Rattle.walk.proofs.Found.{behind, item-read, item-moves-on}
+use Rattle.numbers.proofs.Found.{behind}
+use Rattle.walk.proofs.Found.{item-read, item-moves-on}
 use Rattle.walk.proofs.Unfolds.{inside-step, unfolds}
 
 -- tags in front of a walk

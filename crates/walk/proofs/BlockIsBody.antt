@@ -23,7 +23,7 @@ use Rattle.walk.specs.Walk.{Seen, seen, walked, walkFrom}
 use Rattle.walk.specs.Grammar.{Plain, Items}
 use Rattle.walk.specs.Grammar.Items.{none, plain, block}
 use Rattle.walk.specs.Block.{BlockIf, Blocks}
-use Rattle.walk.proofs.Found.{behind}
+use Rattle.numbers.proofs.Found.{behind}
 use Rattle.walk.proofs.Exactly.{exactly}
 
 -- the items of a list of the grammar, one behind the other, a block's tags among them

@@ -6,7 +6,7 @@ use native.Mathlib.Omega.{arith}
 use mathlib.Core.List.{List, [], _∷_, _++_}
 use lib.Dec.{ltb}
 use lib.ListN.{length, take, drop, length-append, length-drop, take-append-drop}
-use lib.Seq.{drop-drop, drop-at, length-take-le}
+use lib.Seq.{drop-drop, length-take-le}
 use borrow.Author.Tests.{le-ltb, ltb-false}
 use Rattle.types.specs.Tag.{Number, opening, closing, Tag, tag}
 use Rattle.types.specs.Answer.{Answer, accepted, refused}
@@ -16,10 +16,6 @@ use Rattle.tags.specs.Reading.{tagFrom}
 use Rattle.tags.proofs.Exactly.{tag-found, tag-read, tag-length, block-has-no-value}
 use Rattle.bodies.specs.Item.{contentLength}
 use Rattle.walk.specs.Tag.{itemFrom}
-
--- what stands behind bytes
-pub behind : (xs : List ℕ) (place : ℕ) (bytes rest : List ℕ) → drop place xs ≡ bytes ++ rest → drop (place + length bytes) xs ≡ rest
-behind xs place bytes rest e = sym (drop-drop (length bytes) place xs) ∙ ap (drop (length bytes)) e ∙ drop-at bytes rest (length bytes) refl
 
 -- an item that was found: its tag's bytes and its content stand at the place, and end inside the buffer
 pub record ItemFound (xs : List ℕ) (place : ℕ) (t : Tag) (next : ℕ) : Type 0 where
