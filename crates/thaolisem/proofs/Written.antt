@@ -19,11 +19,10 @@ pub told-left : (l : Left) (r : Answer (Unit {0})) (ys t : List ℕ) → left r 
 told-left l r ys t e told = (told ∙ ap (λ (x : Left). toldWrite (x .answer)) e, ap (λ (x : Left). x .buffer) e)
 
 -- where something is named, its write
-pub named-wrote : {A : Type 0} (lent : ℕ) (named : Option A) (to : A → List ℕ → ℕ → Left) (xs : List ℕ) (place : ℕ) (a : A)
-    → named ≡ some a → (r : Answer (Unit {0})) (ys : List ℕ) → left r ys ≡ to a xs place
-    → (t : List ℕ) → t ≡ toldWrite r
+pub named-wrote : {A : Type 0} (lent : ℕ) (to : A → List ℕ → ℕ → Left) {named : Option A} {a : A} {xs ys t : List ℕ} {place : ℕ} {r : Answer (Unit {0})}
+    → named ≡ some a → left r ys ≡ to a xs place → t ≡ toldWrite r
     → (t ≡ toldWrite (namedTo lent named to xs place .answer)) × (ys ≡ namedTo lent named to xs place .buffer)
-named-wrote {A} lent named to xs place a e r ys wrote t told =
+named-wrote {A} lent to {named} {a} {xs} {ys} {t} {place} {r} e wrote told =
     told-left (namedTo lent named to xs place) r ys t (wrote ∙ sym (ap (λ (o : Option A). namedTo lent o to xs place) e)) told
 
 -- a refusal before others leaves the buffer as it was
@@ -44,9 +43,8 @@ nothing-left lent xs place =
     (kept (ltb (length xs) place) 2 (amount place) cannot-be xs place refl)))
 
 -- where nothing is named, a refusal
-pub nothing-wrote : {A : Type 0} (lent : ℕ) (named : Option A) (to : A → List ℕ → ℕ → Left) (xs : List ℕ) (place : ℕ)
-    → named ≡ none → (r : Answer (Unit {0})) → r ≡ writeAnswer lent never 0 xs place
-    → (t : List ℕ) → t ≡ toldWrite r
+pub nothing-wrote : {A : Type 0} (lent : ℕ) (to : A → List ℕ → ℕ → Left) (place : ℕ) {named : Option A} {xs t : List ℕ} {r : Answer (Unit {0})}
+    → named ≡ none → r ≡ writeAnswer lent never 0 xs place → t ≡ toldWrite r
     → (t ≡ toldWrite (namedTo lent named to xs place .answer)) × (xs ≡ namedTo lent named to xs place .buffer)
-nothing-wrote {A} lent named to xs place e r wrote t told =
+nothing-wrote {A} lent to place {named} {xs} {t} {r} e wrote told =
     told-left (namedTo lent named to xs place) r xs t (ap (λ (x : Answer (Unit {0})). left x xs) wrote ∙ nothing-left lent xs place ∙ sym (ap (λ (o : Option A). namedTo lent o to xs place) e)) told

@@ -1,5 +1,6 @@
 -- What the numbers of a writer name, and the write of what they name; where they name nothing, 12.
 -- Assumes nothing.
+use mathlib.Core.Path.{_≡_}
 use Prim.Native.Nat.{ℕ}
 use mathlib.Core.Bool.{Bool, true, false}
 use mathlib.Core.List.{List, [], _∷_}
@@ -10,11 +11,13 @@ use Rattle.types.specs.Tag.{Number, application, context, opening, closing, Tag
 use Rattle.types.specs.Refusal.{amount}
 use Rattle.types.specs.Writing.{Left, Writable, cannot, writing}
 use Rattle.tags.specs.Writing.{tagTo}
-use Rattle.tags.specs.Item.{itemTo, booleanByte}
+use Rattle.tags.specs.Item.{itemTo, numberUnder, booleanByte}
 use Rattle.headers.specs.Header.{Header, header, request, simple, complex, segment, nibbles, number, choice, headerOf}
 use Rattle.headers.specs.Writing.{headerTo}
 use Rattle.thaolisem.specs.declared.tag.NumberNamed as program-number
 use Rattle.thaolisem.specs.declared.tag.NumberNamed.the-variants as n
+use Rattle.thaolisem.specs.declared.integer.ContextTagNamed as program-under
+use Rattle.thaolisem.specs.declared.integer.ContextTagNamed.the-variants as c
 use Rattle.thaolisem.specs.declared.header.HeaderNamed as program-header
 use Rattle.thaolisem.specs.declared.header.HeaderNamed.the-variants as h
 
@@ -77,6 +80,14 @@ abbrev pub paperNumber : program-number.NumberNamed → Option Number
 paperNumber (n.Number x) = some (numberOf x)
 paperNumber n.Nothing = none
 
+abbrev pub paperUnder : ℕ → program-under.ContextTagNamed → Option Number
+paperUnder kind (c.ContextTag x) = some (numberUnder kind x)
+paperUnder kind c.Nothing = none
+
 abbrev pub paperHeaderNamed : program-header.HeaderNamed → Option Header
 paperHeaderNamed (h.Header x) = some (headerOf x)
 paperHeaderNamed h.Nothing = none
+
+-- that it is what class and number name for integers of every kind
+abbrev pub NamesUnder : program-under.ContextTagNamed → ℕ → ℕ → Type 0
+NamesUnder x class k = (kind : ℕ) → paperUnder kind x ≡ underNamed kind class k

@@ -3,13 +3,19 @@ ghost use mathlib.Core.Path.{_≡_};
 ghost use Rattle.numbers.specs.Reading.{unsignedFrom, signedFrom};
 ghost use Rattle.numbers.specs.Integer.{unsignedBytes, signedBytes};
 ghost use Rattle.thaolisem.specs.Told.{toldUnsigned, toldSigned, toldWrite};
-ghost use Rattle.thaolisem.specs.Named.{integerNamedTo, booleanNamedTo};
+ghost use Rattle.thaolisem.specs.Named.{NamesUnder, integerNamedTo, booleanNamedTo};
 use crate::answer::nothing_named;
 use crate::answer::refused;
 use crate::answer::written;
 use numbers::SignedRead;
 use numbers::UnsignedRead;
 use tags::ContextTag;
+
+// What an integer is written under, or that two numbers name nothing.
+enum ContextTagNamed {
+    ContextTag(ContextTag),
+    Nothing,
+}
 
 // Tells the unsigned integer whose content has this length.
 #[no_mangle]
@@ -46,6 +52,17 @@ pub extern "C" fn thaolisem_decode_signed(len: u32, buf: &[u8], place: usize, an
     }
 }
 
+// What a class and a number name for an integer: 1 the application tag of its kind, 2 a context tag.
+fn context_tag_named(class: u8, number: u8) -> ContextTagNamed
+    ensures { λ r. ⌜ NamesUnder r class number ⌝ }
+{
+    match class {
+        1 => ContextTagNamed::ContextTag(ContextTag::Application),
+        2 => ContextTagNamed::ContextTag(ContextTag::Number(number)),
+        _ => ContextTagNamed::Nothing,
+    }
+}
+
 // Writes an unsigned integer under application tag 2 (class 1) or a context tag (class 2).
 #[no_mangle]
 pub extern "C" fn thaolisem_encode_unsigned(
@@ -59,14 +76,11 @@ pub extern "C" fn thaolisem_encode_unsigned(
     ensures { λ _. ⌜ now (answer .exit) ≡ toldWrite (integerNamedTo 2 class number (unsignedBytes value) (now (buf .entry)) place .answer) ⌝ }
     ensures { λ _. ⌜ now (buf .exit) ≡ integerNamedTo 2 class number (unsignedBytes value) (now (buf .entry)) place .buffer ⌝ }
 {
-    match class {
-        1 => {
-            *answer = written(tags::encode_unsigned(ContextTag::Application, value, buf, place));
+    match context_tag_named(class, number) {
+        ContextTagNamed::ContextTag(context_tag) => {
+            *answer = written(tags::encode_unsigned(context_tag, value, buf, place));
         }
-        2 => {
-            *answer = written(tags::encode_unsigned(ContextTag::Number(number), value, buf, place));
-        }
-        _ => {
+        ContextTagNamed::Nothing => {
             *answer = written(nothing_named(0, buf, place));
         }
     }
@@ -85,14 +99,11 @@ pub extern "C" fn thaolisem_encode_signed(
     ensures { λ _. ⌜ now (answer .exit) ≡ toldWrite (integerNamedTo 3 class number (signedBytes value) (now (buf .entry)) place .answer) ⌝ }
     ensures { λ _. ⌜ now (buf .exit) ≡ integerNamedTo 3 class number (signedBytes value) (now (buf .entry)) place .buffer ⌝ }
 {
-    match class {
-        1 => {
-            *answer = written(tags::encode_signed(ContextTag::Application, value, buf, place));
+    match context_tag_named(class, number) {
+        ContextTagNamed::ContextTag(context_tag) => {
+            *answer = written(tags::encode_signed(context_tag, value, buf, place));
         }
-        2 => {
-            *answer = written(tags::encode_signed(ContextTag::Number(number), value, buf, place));
-        }
-        _ => {
+        ContextTagNamed::Nothing => {
             *answer = written(nothing_named(0, buf, place));
         }
     }
@@ -111,19 +122,11 @@ pub extern "C" fn thaolisem_encode_enumerated(
     ensures { λ _. ⌜ now (answer .exit) ≡ toldWrite (integerNamedTo 9 class number (unsignedBytes value) (now (buf .entry)) place .answer) ⌝ }
     ensures { λ _. ⌜ now (buf .exit) ≡ integerNamedTo 9 class number (unsignedBytes value) (now (buf .entry)) place .buffer ⌝ }
 {
-    match class {
-        1 => {
-            *answer = written(tags::encode_enumerated(value, ContextTag::Application, buf, place));
+    match context_tag_named(class, number) {
+        ContextTagNamed::ContextTag(context_tag) => {
+            *answer = written(tags::encode_enumerated(value, context_tag, buf, place));
         }
-        2 => {
-            *answer = written(tags::encode_enumerated(
-                value,
-                ContextTag::Number(number),
-                buf,
-                place,
-            ));
-        }
-        _ => {
+        ContextTagNamed::Nothing => {
             *answer = written(nothing_named(0, buf, place));
         }
     }

@@ -3,8 +3,7 @@
 use borrow.Author.Needs.{needs}
 use mathlib.Core.Path.{sym, ap, _∙_}
 use Rattle.headers.specs.Writing.{headerTo}
-use Rattle.thaolisem.specs.Named.{paperHeaderNamed, headerNamed, headerNamedTo}
-use Rattle.types.specs.Writing.{paperWritten}
+use Rattle.thaolisem.specs.Named.{paperHeaderNamed, headerNamedTo}
 use Rattle.thaolisem.proofs.Written.{named-wrote, nothing-wrote}
 use Rattle.thaolisem.proofs.header.thaolisem_encode_header.Statement.{statement}
 use Rattle.thaolisem.proofs.header.thaolisem_encode_header.Tie as tie
@@ -36,8 +35,7 @@ same-length c = search needs
 returns : tie.Need-returns
 unfolding headerNamedTo
 returns c =
-    let a = c .before .before .before .before .before .before .before .before .before .before .args in
-    named-wrote 0 (headerNamed (a .kind) (a .a) (a .b) (a .c) (a .d)) (headerTo) (a .buf .now) (a .place) _ (sym (c .before .before .before .before .before .before .before .before .header-named .ensures) ∙ ap paperHeaderNamed (c .before .before .before .before .before .before .header .given .1)) (paperWritten (c .before .before .before .encode .result)) (c .before .before .before .encode .last .1 .0) (c .before .before .before .encode .ensures) _ (c .written .ensures)
+    named-wrote 0 headerTo (sym (c .before .before .before .before .before .before .before .before .header-named .ensures) ∙ ap paperHeaderNamed (c .before .before .before .before .before .before .header .given .1)) (c .before .before .before .encode .ensures) (c .written .ensures)
 
 same-length-2 : tie.Need-same-length-2
 same-length-2 c = search needs
@@ -46,7 +44,7 @@ returns-2 : tie.Need-returns-2
 unfolding headerNamedTo
 returns-2 c =
     let a = c .before .before .before .before .before .before .before .args in
-    nothing-wrote 0 (headerNamed (a .kind) (a .a) (a .b) (a .c) (a .d)) (headerTo) (a .buf .now) (a .place) (sym (c .before .before .before .before .before .header-named .ensures) ∙ ap paperHeaderNamed (c .before .before .before .enum-told .given .1)) (paperWritten (c .before .nothing-named .result)) (c .before .nothing-named .ensures) _ (c .written2 .ensures)
+    nothing-wrote 0 headerTo (a .place) (sym (c .before .before .before .before .before .header-named .ensures) ∙ ap paperHeaderNamed (c .before .before .before .enum-told .given .1)) (c .before .nothing-named .ensures) (c .written2 .ensures)
 
 pub thaolisem-encode-header-spec : {M : Type 1} → statement M
 thaolisem-encode-header-spec =

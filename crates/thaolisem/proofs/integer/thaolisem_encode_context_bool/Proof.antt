@@ -6,7 +6,6 @@ use borrow.Author.Tests.{ne-eqb}
 use mathlib.Core.Bool.{Bool, true, false}
 use mathlib.Core.List.{[], _∷_}
 use Rattle.types.specs.Tag.{context}
-use Rattle.types.specs.Writing.{paperWritten}
 use Rattle.tags.specs.Item.{itemTo, booleanByte}
 use Rattle.thaolisem.specs.Named.{booleanNamed, booleanNamedTo}
 use Rattle.thaolisem.proofs.Written.{named-wrote, nothing-wrote}
@@ -39,7 +38,7 @@ unfolding booleanNamed booleanNamedTo
 returns c =
     let e : c .before .before .before .before .before .before .before .args .value ≡ 0 = c .before .before .before .before .before .match .keys1 in
     let a = c .before .before .before .before .before .before .before .args in
-    named-wrote 0 (booleanNamed (a .value)) (λ (x : Bool). itemTo (context (a .number)) (booleanByte x ∷ [])) (a .buf .now) (a .place) false (simp e) (paperWritten (c .before .before .before .encode-context-bool .result)) (c .before .before .before .encode-context-bool .last .1 .1 .0) (c .before .before .before .encode-context-bool .ensures) _ (c .written .ensures)
+    named-wrote 0 (λ (x : Bool). itemTo (context (a .number)) (booleanByte x ∷ [])) {named = booleanNamed (a .value)} {a = false} (simp e) (c .before .before .before .encode-context-bool .ensures) (c .written .ensures)
 
 same-length-2 : tie.Need-same-length-2
 same-length-2 c = search needs
@@ -49,7 +48,7 @@ unfolding booleanNamed booleanNamedTo
 returns-2 c =
     let e : c .before .before .before .before .before .before .before .args .value ≡ 1 = c .before .before .before .before .before .match .keys2 in
     let a = c .before .before .before .before .before .before .before .args in
-    named-wrote 0 (booleanNamed (a .value)) (λ (x : Bool). itemTo (context (a .number)) (booleanByte x ∷ [])) (a .buf .now) (a .place) true (simp e) (paperWritten (c .before .before .before .encode-context-bool2 .result)) (c .before .before .before .encode-context-bool2 .last .1 .1 .0) (c .before .before .before .encode-context-bool2 .ensures) _ (c .written2 .ensures)
+    named-wrote 0 (λ (x : Bool). itemTo (context (a .number)) (booleanByte x ∷ [])) {named = booleanNamed (a .value)} {a = true} (simp e) (c .before .before .before .encode-context-bool2 .ensures) (c .written2 .ensures)
 
 same-length-3 : tie.Need-same-length-3
 same-length-3 c = search needs
@@ -58,7 +57,7 @@ returns-3 : tie.Need-returns-3
 unfolding booleanNamed booleanNamedTo
 returns-3 c =
     let a = c .before .before .before .before .before .args in
-    nothing-wrote 0 (booleanNamed (a .value)) (λ (x : Bool). itemTo (context (a .number)) (booleanByte x ∷ [])) (a .buf .now) (a .place) (simp (ne-eqb (c .before .before .before .before .before .args .value) 0 (c .before .before .before .match .rest .0 .1), ne-eqb (c .before .before .before .before .before .args .value) 1 (c .before .before .before .match .rest .1))) (paperWritten (c .before .nothing-named .result)) (c .before .nothing-named .ensures) _ (c .written3 .ensures)
+    nothing-wrote 0 (λ (x : Bool). itemTo (context (a .number)) (booleanByte x ∷ [])) (a .place) {named = booleanNamed (a .value)} (simp (ne-eqb (c .before .before .before .before .before .args .value) 0 (c .before .before .before .match .rest .0 .1), ne-eqb (c .before .before .before .before .before .args .value) 1 (c .before .before .before .match .rest .1))) (c .before .nothing-named .ensures) (c .written3 .ensures)
 
 pub thaolisem-encode-context-bool-spec : {M : Type 1} → statement M
 thaolisem-encode-context-bool-spec =

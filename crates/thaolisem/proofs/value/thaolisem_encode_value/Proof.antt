@@ -5,8 +5,7 @@ use mathlib.Core.Path.{sym, ap, _∙_}
 use lib.ListN.{length}
 use Rattle.values.specs.Value.{Value}
 use Rattle.values.specs.Writing.{valueTo}
-use Rattle.thaolisem.specs.Value.{paperNamed, valueNamed, valueNamedTo}
-use Rattle.types.specs.Writing.{paperWritten}
+use Rattle.thaolisem.specs.Value.{paperNamed, valueNamedTo}
 use Rattle.thaolisem.proofs.Written.{named-wrote, nothing-wrote}
 use Rattle.thaolisem.proofs.value.thaolisem_encode_value.Statement.{statement}
 use Rattle.thaolisem.proofs.value.thaolisem_encode_value.Tie as tie
@@ -39,7 +38,7 @@ returns : tie.Need-returns
 unfolding valueNamedTo
 returns c =
     let a = c .before .before .before .before .before .before .before .before .before .before .before .args in
-    named-wrote (length (a .content .now)) (valueNamed (a .case) (a .a) (a .b) (a .c) (a .d)) (λ (v : Value). valueTo v (a .content .now)) (a .buf .now) (a .place) _ (sym (c .before .before .before .before .before .before .before .before .value-named .ensures) ∙ ap paperNamed (c .before .before .before .before .before .before .value .given .1)) (paperWritten (c .before .before .before .encode .result)) (c .before .before .before .encode .last .1 .1 .0) (c .before .before .before .encode .ensures) _ (c .written .ensures)
+    named-wrote (length (a .content .now)) (λ (v : Value). valueTo v (a .content .now)) (sym (c .before .before .before .before .before .before .before .before .value-named .ensures) ∙ ap paperNamed (c .before .before .before .before .before .before .value .given .1)) (c .before .before .before .encode .ensures) (c .written .ensures)
 
 same-length-2 : tie.Need-same-length-2
 same-length-2 c = search needs
@@ -48,7 +47,7 @@ returns-2 : tie.Need-returns-2
 unfolding valueNamedTo
 returns-2 c =
     let a = c .before .before .before .before .before .before .before .before .args in
-    nothing-wrote (length (a .content .now)) (valueNamed (a .case) (a .a) (a .b) (a .c) (a .d)) (λ (v : Value). valueTo v (a .content .now)) (a .buf .now) (a .place) (sym (c .before .before .before .before .before .value-named .ensures) ∙ ap paperNamed (c .before .before .before .enum-told .given .1)) (paperWritten (c .before .nothing-named .result)) (c .before .nothing-named .ensures) _ (c .written2 .ensures)
+    nothing-wrote (length (a .content .now)) (λ (v : Value). valueTo v (a .content .now)) (a .place) (sym (c .before .before .before .before .before .value-named .ensures) ∙ ap paperNamed (c .before .before .before .enum-told .given .1)) (c .before .nothing-named .ensures) (c .written2 .ensures)
 
 pub thaolisem-encode-value-spec : {M : Type 1} → statement M
 thaolisem-encode-value-spec =
