@@ -1,5 +1,6 @@
 pub mod Decimal
 pub mod Puts
+pub mod Words
 pub mod TagLines
 pub mod Walking
 pub mod Digits

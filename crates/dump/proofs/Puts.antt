@@ -1,14 +1,14 @@
 -- Texts put one behind the other are one text.
 -- Assumes nothing.
-use mathlib.Core.Path.{_≡_, refl, _∙_, sym, ap}
-use mathlib.Core.List.{List, [], _∷_, _++_, append-assoc}
-use Prim.Native.Nat.{ℕ, suc, _+_, _<_}
+use mathlib.Core.Path.{_≡_, refl, _∙_, sym, ap, subst}
+use mathlib.Core.List.{List, [], _∷_, _++_}
+use Prim.Native.Nat.{ℕ, suc, _+_}
 use native.Mathlib.Numerals.{add-one}
 use native.Mathlib.Nat.{add-zero, add-suc, suc-add, add-assoc}
 use native.Mathlib.Omega.{arith}
 use lib.ListN.{length, set, length-append}
 use lib.Seq.{sets}
-use Rattle.dump.specs.Text.{Wrote, line}
+use Rattle.dump.specs.Text.{Wrote}
 
 -- two runs of stores, the second where the first ended, are one
 pub sets-append : (a b xs : List ℕ) (at : ℕ) → sets (sets xs at a) (at + length a) b ≡ sets xs at (a ++ b)
@@ -30,6 +30,10 @@ nothing xs at = record { buffer = refl; after = sym (add-zero at) }
 -- one byte
 pub one : (xs : List ℕ) (at b : ℕ) {next : ℕ} → next ≡ at + 1 → Wrote xs at (b ∷ []) (set xs at b) next
 one xs at b e = record { buffer = refl; after = e }
+
+-- a text and one byte behind it
+pub ended : {xs text ys : List ℕ} {at p next : ℕ} (q b : ℕ) → Wrote xs at text ys p → p ≡ q → next ≡ q + 1 → Wrote xs at (text ++ (b ∷ [])) (set ys q b) next
+ended {xs} {text} {ys} {at} q b w e f = then (subst (Wrote xs at text ys) e w) (one ys q b f)
 
 -- two bytes
 pub two : (xs : List ℕ) (at a b : ℕ) → Wrote xs at (a ∷ b ∷ []) (set (set xs at a) (at + 1) b) (at + 2)
@@ -59,12 +63,3 @@ come {ys = ys} {p = p} c e w =
       buffer = w .buffer ∙ sym (c .stored ∙ ap (sets ys p) e);
       after = w .after ∙ sym (c .counted ∙ ap (λ (t : List ℕ). p + length t) e);
     }
-
-line-more : (w : List ℕ) (ws : List (List ℕ)) → 0 < length ws → (w ++ (32 ∷ [])) ++ line ws ≡ line (w ∷ ws)
-line-more w [] h = absurd (omega arith)
-line-more w (v ∷ ws) h = append-assoc w (32 ∷ []) (line (v ∷ ws))
-
--- a word and a space, then the rest of a line
-pub then-line : {xs ys zs : List ℕ} (w : List ℕ) (ws : List (List ℕ)) {at p q : ℕ} → 0 < length ws
-    → Wrote xs at (w ++ (32 ∷ [])) ys p → Wrote ys p (line ws) zs q → Wrote xs at (line (w ∷ ws)) zs q
-then-line w ws h a b = rw (← line-more w ws h) (then a b)

@@ -11,13 +11,16 @@ use lib.ListN.{length, getD, set, length-set}
 use lib.Seq.{getD-set-same, getD-set-other}
 use borrow.Author.Tests.{ne-eqb}
 use Rattle.types.specs.Choice.{if}
-use Rattle.types.specs.Tag.{Number, application, context, opening, closing}
+use Rattle.types.specs.Tag.{Number, application, context, opening, closing, tagOf}
+use Rattle.types.specs.declared.tag.Tag as program
 use Rattle.types.specs.Refusal.{Carried, amount}
 use Rattle.types.specs.Answer.{Answer, accepted, refused, Outcome, stopped}
-use Rattle.walk.specs.Tag.{Standing, tagAt}
+use Rattle.walk.specs.Tag.{Standing, standing, tagAt, paperTagAt}
+use Rattle.walk.specs.declared.tag.TagAt.{TagAt}
+use Rattle.walk.specs.declared.tag.TagAt.the-variants as p
 use Rattle.walk.specs.Walk.{Seen, seen, Walk, more, ended, Step, ends, goes, closingStep, atEnd, stepFrom, turn, walkOn, walkFrom}
 use Rattle.walk.proofs.Unfolds.{unfolds, end-step}
-use Rattle.walk.proofs.Standing.{Goes, Agree, agrees}
+use Rattle.walk.proofs.Standing.{Goes, Agree, agrees, tag-at-bounds}
 use Rattle.walk.proofs.Nested.{unguarded}
 use Rattle.dump.specs.Frame.{tagLine, tagLines, okLine, refusedLine, outcomeLine, walkText}
 use Rattle.dump.specs.Open.{opened, fitsBy, openAfter}
@@ -32,7 +35,7 @@ around : (blocks depth n : ℕ) (os : List ℕ) → blocks ≤ depth → opened 
 around zero depth n os h = refl
 around (suc blocks) depth n os h = ap₂ _∷_ (getD-set-other os depth blocks n 0 (λ e. omega arith)) (around blocks depth n os (omega arith))
 
-pub kept-length : (k : Number) (depth : ℕ) (os : List ℕ) → length (openAfter k depth os) ≡ length os
+kept-length : (k : Number) (depth : ℕ) (os : List ℕ) → length (openAfter k depth os) ≡ length os
 kept-length (application n) depth os = refl
 kept-length (context n) depth os = refl
 kept-length (opening n) depth os = length-set os depth n
@@ -54,7 +57,7 @@ rest-first frame xs place small inside =
     ap (walkText frame) (unguarded xs place small inside) ∙ ap (λ (j : ℕ). tagLines frame (w .tags) ++ outcomeLine frame j (w .outcome)) (sym (zero-add (length (w .tags))))
 
 -- a tag's line, and those behind it
-pub rest-goes : (frame tags : ℕ) (xs : List ℕ) (place : ℕ) (ns : List ℕ) (t : Seen) (next : ℕ) (ms : List ℕ) → stepFrom xs place ns ≡ goes t next ms
+rest-goes : (frame tags : ℕ) (xs : List ℕ) (place : ℕ) (ns : List ℕ) (t : Seen) (next : ℕ) (ms : List ℕ) → stepFrom xs place ns ≡ goes t next ms
     → rest frame tags xs place ns ≡ tagLine frame t ++ rest frame (tags + 1) xs next ms
 unfolding rest
 rest-goes frame tags xs place ns t next ms e =
@@ -65,7 +68,7 @@ rest-goes frame tags xs place ns t next ms e =
     ∙ ap (λ (j : ℕ). tagLine frame t ++ (tagLines frame (w .tags) ++ outcomeLine frame j (w .outcome))) k
 
 -- the outcome's line alone
-pub rest-ends : (frame tags : ℕ) (xs : List ℕ) (place : ℕ) (ns : List ℕ) (o : Outcome) → stepFrom xs place ns ≡ ends o → rest frame tags xs place ns ≡ outcomeLine frame tags o
+rest-ends : (frame tags : ℕ) (xs : List ℕ) (place : ℕ) (ns : List ℕ) (o : Outcome) → stepFrom xs place ns ≡ ends o → rest frame tags xs place ns ≡ outcomeLine frame tags o
 unfolding rest
 rest-ends frame tags xs place ns o e =
     let k : tags + 0 ≡ tags = omega arith in
@@ -80,6 +83,25 @@ pub rest-end : (frame tags : ℕ) (xs : List ℕ) (place blocks : ℕ) (os : Lis
 rest-end frame tags xs place blocks os h =
     rest-ends frame tags xs place (opened blocks os) (atEnd xs (opened blocks os)) (end-step xs place (opened blocks os) h) ∙ at-end frame tags blocks xs os
 
+-- a tag that is accepted at a place where so many blocks are open, at most sixteen: how it stands, and the place behind it
+pub record Found (xs : List ℕ) (place blocks : ℕ) (s : Standing) (next : ℕ) : Type 0 where
+  pub told : tagAt xs place blocks ≡ accepted s next
+  pub behind : place < next
+  pub inside : next ≤ length xs
+  pub shallow : s .depth ≤ 16
+  pub few : s .blocks ≤ 16
+
+pub found : (xs : List ℕ) (place blocks : ℕ) (r : TagAt) (t : program.Tag) (depth next after : ℕ) → blocks ≤ 16 → paperTagAt r ≡ tagAt xs place blocks → r ≡ p.Accepted t depth next after
+    → Found xs place blocks (standing (tagOf t) depth after) next
+found xs place blocks r t depth next after h a e =
+    let told : tagAt xs place blocks ≡ accepted (standing (tagOf t) depth after) next = sym a ∙ ap paperTagAt e in
+    let b = tag-at-bounds xs place blocks (standing (tagOf t) depth after) next told in
+    record { told = told; behind = b .0; inside = b .1; shallow = b .2 h .0; few = b .2 h .1 }
+
+-- as many numbers are kept as before
+pub still-kept : {xs : List ℕ} {place blocks : ℕ} {s : Standing} {next : ℕ} (os : List ℕ) → Found xs place blocks s next → length os ≡ 17 → length (openAfter (s .tag .number) (s .depth) os) ≡ 17
+still-kept {s = s} os f l = kept-length (s .tag .number) (s .depth) os ∙ l
+
 -- the tag at a place inside, where so many blocks are open and their numbers are kept by depth
 module _ (xs : List ℕ) (place blocks : ℕ) (os : List ℕ) (h : place < length xs) where
   agreed : (a : Answer Standing) → tagAt xs place blocks ≡ a → Agree place (opened blocks os) a (stepFrom xs place (opened blocks os))
@@ -87,9 +109,9 @@ module _ (xs : List ℕ) (place blocks : ℕ) (os : List ℕ) (h : place < lengt
       let ns : List ℕ = opened blocks os in
       subst (λ (y : Answer Standing). Agree place ns y (stepFrom xs place ns)) (ap (tagAt xs place) (opened-length blocks os) ∙ e) (agrees xs place ns h)
 
-  -- the walk ends at a tag that is refused
-  pub refused-ends : (n : ℕ) (c : Carried) → tagAt xs place blocks ≡ refused n c → stepFrom xs place (opened blocks os) ≡ ends (stopped n c)
-  refused-ends n c e = agreed (refused n c) e
+  -- at a tag that is refused the walk ends
+  pub rest-refused : (frame tags n : ℕ) (c : Carried) → tagAt xs place blocks ≡ refused n c → rest frame tags xs place (opened blocks os) ≡ refusedLine frame n
+  rest-refused frame tags n c e = rest-ends frame tags xs place (opened blocks os) (stopped n c) (agreed (refused n c) e)
 
   module _ (s : Standing) (next : ℕ) where
     -- one that is accepted and fits is the walk's next, and its numbers are kept; at one that does not fit the walk ends with 15
@@ -116,13 +138,19 @@ module _ (xs : List ℕ) (place blocks : ℕ) (os : List ℕ) (h : place < lengt
         let b : blocks ≡ suc (s .depth) = sym (opened-length blocks os) ∙ g .1 ∙ ap suc (sym (g .2)) in
         g .0 ∙ closing-fits n (s .depth) b (sym (g .2))
 
-    module _ (l : s .depth < length os) (e : tagAt xs place blocks ≡ accepted s next) where
+    module _ (f : Found xs place blocks s next) (l : length os ≡ 17) where
       fitted : Fitted (s .tag .number) (s .depth) (stepFrom xs place (opened blocks os))
-      fitted = by-class (s .tag .number) (stepFrom xs place (opened blocks os)) l (agreed (accepted s next) e)
+      fitted = by-class (s .tag .number) (stepFrom xs place (opened blocks os)) (omega (arith, f .shallow)) (agreed (accepted s next) (f .told))
 
       pub fitting-goes : fitsBy (s .tag .number) (s .depth) os ≡ true
           → stepFrom xs place (opened blocks os) ≡ goes (seen place (s .depth) (s .tag)) next (opened (s .blocks) (openAfter (s .tag .number) (s .depth) os))
-      fitting-goes f = fitted ∙ ap (byFit (s .tag .number) (s .depth)) f
+      fitting-goes e = fitted ∙ ap (byFit (s .tag .number) (s .depth)) e
 
-      pub other-ends : fitsBy (s .tag .number) (s .depth) os ≡ false → stepFrom xs place (opened blocks os) ≡ ends (stopped 15 (amount place))
-      other-ends f = fitted ∙ ap (byFit (s .tag .number) (s .depth)) f
+      -- so the text goes on with its line, or is the line of 15
+      module _ (frame tags : ℕ) where
+        pub rest-fitting : fitsBy (s .tag .number) (s .depth) os ≡ true
+            → rest frame tags xs place (opened blocks os) ≡ tagLine frame (seen place (s .depth) (s .tag)) ++ rest frame (tags + 1) xs next (opened (s .blocks) (openAfter (s .tag .number) (s .depth) os))
+        rest-fitting e = rest-goes frame tags xs place (opened blocks os) (seen place (s .depth) (s .tag)) next (opened (s .blocks) (openAfter (s .tag .number) (s .depth) os)) (fitting-goes e)
+
+        pub rest-other : fitsBy (s .tag .number) (s .depth) os ≡ false → rest frame tags xs place (opened blocks os) ≡ refusedLine frame 15
+        rest-other e = rest-ends frame tags xs place (opened blocks os) (stopped 15 (amount place)) (fitted ∙ ap (byFit (s .tag .number) (s .depth)) e)

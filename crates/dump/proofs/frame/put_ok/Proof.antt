@@ -1,9 +1,7 @@
 -- `dump::put_ok` meets its contract: the frame's number, the word and the number of tags are one line.
 -- Assumes nothing.
-use Rattle.dump.proofs.Puts.{then-line}
+use Rattle.dump.proofs.Words.{word, number, last}
 use Rattle.dump.specs.Frame.{okLine}
-use Rattle.dump.specs.Text.{decimal}
-use lib.Dec.{lit<}
 use native.Mathlib.Omega.{arith}
 use mathlib.Core.List.{[], _∷_}
 use borrow.Author.Needs.{needs}
@@ -27,8 +25,7 @@ same-length c = search needs
 
 returns : tie.Need-returns
 unfolding okLine
-returns c = let a = c .before .before .before .before .before .before .before .before .before .before .before .before .before .before .args in
-    (then-line (decimal (a .number)) ((111 ∷ 107 ∷ []) ∷ decimal (a .tags) ∷ []) (lit< tt) (c .before .before .before .before .before .before .before .before .before .before .before .put-number .ensures .0) (then-line (111 ∷ 107 ∷ []) (decimal (a .tags) ∷ []) (lit< tt) (c .before .before .before .before .before .before .put-word .ensures .0) (c .before .before .put-number2 .ensures .0)), omega arith)
+returns c = (number _ (c .before .before .before .before .before .before .before .before .before .before .before .put-number .ensures .0) (word (111 ∷ 107 ∷ []) (c .before .before .before .before .before .before .put-word .ensures .0) (last _ (c .before .before .put-number2 .ensures .0))) .text, omega arith)
 
 pub put-ok-spec : {M : Type 1} → statement M
 put-ok-spec =

@@ -1,9 +1,7 @@
 -- `dump::put_refused` meets its contract: the frame's number, the word and the refusal's number are one line.
 -- Assumes nothing.
-use Rattle.dump.proofs.Puts.{then-line}
+use Rattle.dump.proofs.Words.{word, number, last}
 use Rattle.dump.specs.Frame.{refusedLine}
-use Rattle.dump.specs.Text.{decimal}
-use lib.Dec.{lit<}
 use native.Mathlib.Omega.{arith}
 use mathlib.Core.List.{[], _∷_}
 use borrow.Author.Needs.{needs}
@@ -33,8 +31,7 @@ same-length c = search needs
 
 returns : tie.Need-returns
 unfolding refusedLine
-returns c = let a = c .before .before .before .before .before .before .before .before .before .before .before .before .before .before .before .args in
-    (rw (← c .before .before .before .number .ensures) (then-line (decimal (a .number)) ((114 ∷ 101 ∷ 102 ∷ 117 ∷ 115 ∷ 101 ∷ 100 ∷ []) ∷ decimal (c .before .before .before .number .result) ∷ []) (lit< tt) (c .before .before .before .before .before .before .before .before .before .before .before .before .put-number .ensures .0) (then-line (114 ∷ 101 ∷ 102 ∷ 117 ∷ 115 ∷ 101 ∷ 100 ∷ []) (decimal (c .before .before .before .number .result) ∷ []) (lit< tt) (c .before .before .before .before .before .before .before .put-word .ensures .0) (c .before .before .put-number2 .ensures .0))), omega arith)
+returns c = (rw (← c .before .before .before .number .ensures) (number _ (c .before .before .before .before .before .before .before .before .before .before .before .before .put-number .ensures .0) (word (114 ∷ 101 ∷ 102 ∷ 117 ∷ 115 ∷ 101 ∷ 100 ∷ []) (c .before .before .before .before .before .before .before .put-word .ensures .0) (last _ (c .before .before .put-number2 .ensures .0))) .text), omega arith)
 
 pub put-refused-spec : {M : Type 1} → statement M
 put-refused-spec =

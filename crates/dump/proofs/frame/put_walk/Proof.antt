@@ -1,21 +1,16 @@
 -- `dump::put_walk` meets its contract: each turn puts the line of the walk's next tag, and the lines of the others are still to come, or its outcome.
 -- Assumes nothing.
 use Rattle.dump.proofs.Puts.{Coming, all-coming, go-on, come}
-use Rattle.dump.proofs.Walking.{rest, rest-first, rest-goes, rest-ends, rest-end, refused-ends, other-ends, fitting-goes, kept-length}
-use Rattle.dump.specs.Frame.{tagLine, walkText}
-use Rattle.dump.specs.Open.{opened, fitsBy, openAfter}
-use Rattle.walk.proofs.Standing.{tag-at-bounds}
-use Rattle.walk.specs.Walk.{seen, walkFrom}
-use Rattle.walk.specs.Tag.{Standing, standing, tagAt, paperTagAt}
-use Rattle.types.specs.Answer.{accepted, refused, stopped}
-use Rattle.types.specs.Refusal.{amount, table}
+use Rattle.dump.proofs.Walking.{rest, rest-first, rest-end, Found, found, rest-refused, rest-fitting, rest-other, still-kept}
+use Rattle.dump.specs.Frame.{walkText}
+use Rattle.dump.specs.Open.{opened}
+use Rattle.walk.specs.Walk.{walkFrom}
+use Rattle.walk.specs.Tag.{standing, paperTagAt}
 use Rattle.types.specs.Tag.{tagOf}
 use borrow.Author.Tests.{not-true, not-false}
 use lib.ListN.{length}
 use native.Mathlib.Omega.{arith}
-use Prim.Native.Nat.{ℕ, _+_, _-_, _*_, _<_, _≤_}
-use mathlib.Core.Bool.{true, false}
-use mathlib.Core.List.{List}
+use Prim.Native.Nat.{_+_, _-_, _*_, _≤_}
 use mathlib.Core.Path.{_≡_, refl, _∙_, sym, ap}
 use borrow.Author.Needs.{needs}
 use Rattle.dump.proofs.frame.put_walk.Statement.{statement}
@@ -27,6 +22,10 @@ Inv-loop out₀ at number frame start numbers₀ next₀ place₀ blocks₀ tags
 abbrev μ-loop : tie.MeasureT-loop
 μ-loop out₀ at number frame start numbers₀ next₀ place₀ blocks₀ tags₀ out numbers next place blocks tags = length frame - place
 
+-- the tag found in a turn
+tag-found : (c : tie.After-tag Inv-loop μ-loop) → (let l = c .before .before .before .before .loop in let g = c .tag .given .0 in Found (c .before .before .before .before .before .before .before .args .frame .now) (l .place) (l .blocks) (standing (tagOf (g .0)) (g .1 .0) (g .1 .1 .1 .0)) (g .1 .1 .0))
+tag-found c = found _ _ _ _ _ _ _ _ (c .before .before .before .before .loop .inv .2) (c .before .before .tag-at .ensures) (c .tag .given .1)
+
 loop-holds : tie.Need-loop-holds Inv-loop μ-loop
 loop-holds c = (omega arith, omega arith, omega arith, refl, refl, omega arith, all-coming (rest-first (c .before .before .args .number) (c .before .before .args .frame .now) (c .before .before .args .start) (omega arith) (omega arith)))
 
@@ -37,11 +36,7 @@ enum-known-tag : tie.Need-enum-known-tag Inv-loop μ-loop
 enum-known-tag c = search needs
 
 fits-requires : tie.Need-fits-requires Inv-loop μ-loop
-fits-requires c κs = let l = c .before .before .before .before .before .before .loop in
-    let g = c .before .before .tag .given in
-    let s : Standing = standing (tagOf (g .0 .0)) (g .0 .1 .0) (g .0 .1 .1 .1 .0) in
-    let b = tag-at-bounds (c .before .before .before .before .before .before .before .before .before .args .frame .now) (l .place) (l .blocks) s (g .0 .1 .1 .0) (sym (c .before .before .before .before .tag-at .ensures) ∙ ap paperTagAt (g .1)) in
-    omega (arith, b .2 (l .inv .2) .0)
+fits-requires c κs = omega (arith, tag-found (c .before .before) .shallow)
 
 put-refused-requires : tie.Need-put-refused-requires Inv-loop μ-loop
 put-refused-requires c κs = search needs
@@ -52,46 +47,26 @@ same-length c = search needs
 returns : tie.Need-returns Inv-loop μ-loop
 returns c = let a = c .before .before .before .before .before .before .before .before .before .before .before .before .before .before .before .args in
     let l = c .before .before .before .before .before .before .before .before .before .before .before .before .loop in
-    let g = c .before .before .before .before .before .before .before .before .tag .given in
-    let s : Standing = standing (tagOf (g .0 .0)) (g .0 .1 .0) (g .0 .1 .1 .1 .0) in
-    let q : ℕ = g .0 .1 .1 .0 in
-    let e : tagAt (a .frame .now) (l .place) (l .blocks) ≡ accepted s q = sym (c .before .before .before .before .before .before .before .before .before .before .tag-at .ensures) ∙ ap paperTagAt (g .1) in
-    let b = tag-at-bounds (a .frame .now) (l .place) (l .blocks) s q e in
-    let f : fitsBy (s .tag .number) (s .depth) (l .numbers) ≡ false = sym (c .before .before .before .before .before .fits2 .ensures .0) ∙ not-true _ (c .before .before .before .before .if1 .taken) in
-    let st = other-ends (a .frame .now) (l .place) (l .blocks) (l .numbers) (omega arith) s q (omega (arith, b .2 (l .inv .2) .0)) e f in
-    (come (l .inv .6) (rest-ends (a .number) (l .tags) (a .frame .now) (l .place) (opened (l .blocks) (l .numbers)) (stopped 15 (amount (l .place))) st) (c .before .before .put-refused .ensures .0), omega (arith, c .before .before .put-refused .ensures .1))
+    let f = sym (c .before .before .before .before .before .fits2 .ensures .0) ∙ not-true _ (c .before .before .before .before .if1 .taken) in
+    (come (l .inv .6) (rest-other (a .frame .now) (l .place) (l .blocks) (l .numbers) (omega arith) _ _ (tag-found (c .before .before .before .before .before .before .before .before)) (l .inv .3) (a .number) (l .tags) f) (c .before .before .put-refused .ensures .0), omega (arith, c .before .before .put-refused .ensures .1))
 
 put-tag-requires : tie.Need-put-tag-requires Inv-loop μ-loop
-put-tag-requires c κs = let l = c .before .before .before .before .before .before .before .before .before .loop in
-    let g = c .before .before .before .before .before .tag .given in
-    let s : Standing = standing (tagOf (g .0 .0)) (g .0 .1 .0) (g .0 .1 .1 .1 .0) in
-    let b = tag-at-bounds (c .before .before .before .before .before .before .before .before .before .before .before .before .args .frame .now) (l .place) (l .blocks) s (g .0 .1 .1 .0) (sym (c .before .before .before .before .before .before .before .tag-at .ensures) ∙ ap paperTagAt (g .1)) in
-    (omega arith, omega arith, omega (arith, b .2 (l .inv .2) .0))
+put-tag-requires c κs = (omega arith, omega arith, omega (arith, tag-found (c .before .before .before .before .before) .shallow))
 
 add-tags : tie.Need-add-tags Inv-loop μ-loop
 add-tags c = search needs
 
 loop-less : tie.Need-loop-less Inv-loop μ-loop
-loop-less c = let l = c .before .before .before .before .before .before .before .before .before .before .before .before .loop in
-    let g = c .before .before .before .before .before .before .before .before .tag .given in
-    let s : Standing = standing (tagOf (g .0 .0)) (g .0 .1 .0) (g .0 .1 .1 .1 .0) in
-    let b = tag-at-bounds (c .before .before .before .before .before .before .before .before .before .before .before .before .before .before .before .args .frame .now) (l .place) (l .blocks) s (g .0 .1 .1 .0) (sym (c .before .before .before .before .before .before .before .before .before .before .tag-at .ensures) ∙ ap paperTagAt (g .1)) in
-    omega (arith, b .0, b .1)
+loop-less c = omega (arith, tag-found (c .before .before .before .before .before .before .before .before) .behind, tag-found (c .before .before .before .before .before .before .before .before) .inside)
 
 loop-again : tie.Need-loop-again Inv-loop μ-loop
 loop-again c = let a = c .before .before .before .before .before .before .before .before .before .before .before .before .before .before .before .args in
     let l = c .before .before .before .before .before .before .before .before .before .before .before .before .loop in
-    let g = c .before .before .before .before .before .before .before .before .tag .given in
-    let s : Standing = standing (tagOf (g .0 .0)) (g .0 .1 .0) (g .0 .1 .1 .1 .0) in
-    let q : ℕ = g .0 .1 .1 .0 in
-    let e : tagAt (a .frame .now) (l .place) (l .blocks) ≡ accepted s q = sym (c .before .before .before .before .before .before .before .before .before .before .tag-at .ensures) ∙ ap paperTagAt (g .1) in
-    let b = tag-at-bounds (a .frame .now) (l .place) (l .blocks) s q e in
-    let d : (s .depth ≤ 16) × (s .blocks ≤ 16) = b .2 (l .inv .2) in
-    let f : fitsBy (s .tag .number) (s .depth) (l .numbers) ≡ true = sym (c .before .before .before .before .before .fits2 .ensures .0) ∙ not-false _ (c .before .before .before .before .if1 .left) in
-    let os : List ℕ = openAfter (s .tag .number) (s .depth) (l .numbers) in
-    let st = fitting-goes (a .frame .now) (l .place) (l .blocks) (l .numbers) (omega arith) s q (omega (arith, d .0)) e f in
-    let more = rest-goes (a .number) (l .tags) (a .frame .now) (l .place) (opened (l .blocks) (l .numbers)) (seen (l .place) (s .depth) (s .tag)) q (opened (s .blocks) os) st in
-    (b .1, omega (arith, b .0), d .1, rw (c .before .before .before .before .before .fits2 .ensures .1) (kept-length (s .tag .number) (s .depth) (l .numbers) ∙ l .inv .3), omega arith, omega (arith, b .0, c .before .before .put-tag .ensures .1), rw (c .before .before .before .before .before .fits2 .ensures .1) (go-on (l .inv .6) more (c .before .before .put-tag .ensures .0)))
+    let t = tag-found (c .before .before .before .before .before .before .before .before) in
+    let o = c .before .before .before .before .before .fits2 .ensures .1 in
+    let f = sym (c .before .before .before .before .before .fits2 .ensures .0) ∙ not-false _ (c .before .before .before .before .if1 .left) in
+    let more = rest-fitting (a .frame .now) (l .place) (l .blocks) (l .numbers) (omega arith) _ _ t (l .inv .3) (a .number) (l .tags) f in
+    (t .inside, omega (arith, t .behind), t .few, rw o (still-kept (l .numbers) t (l .inv .3)), omega arith, omega (arith, t .behind, c .before .before .put-tag .ensures .1), rw o (go-on (l .inv .6) more (c .before .before .put-tag .ensures .0)))
 
 enum-known-refusal : tie.Need-enum-known-refusal Inv-loop μ-loop
 enum-known-refusal c = search needs
@@ -105,10 +80,8 @@ same-length-2 c = search needs
 returns-2 : tie.Need-returns-2 Inv-loop μ-loop
 returns-2 c = let a = c .before .before .before .before .before .before .before .before .before .before .before .before .args in
     let l = c .before .before .before .before .before .before .before .before .before .loop in
-    let g = c .before .before .before .before .before .refusal .given in
-    let e : tagAt (a .frame .now) (l .place) (l .blocks) ≡ refused (table (g .0 .0) .number) (table (g .0 .0) .carries) = sym (c .before .before .before .before .before .before .before .tag-at .ensures) ∙ ap paperTagAt (g .1) in
-    let st = refused-ends (a .frame .now) (l .place) (l .blocks) (l .numbers) (omega arith) (table (g .0 .0) .number) (table (g .0 .0) .carries) e in
-    (come (l .inv .6) (rest-ends (a .number) (l .tags) (a .frame .now) (l .place) (opened (l .blocks) (l .numbers)) (stopped (table (g .0 .0) .number) (table (g .0 .0) .carries)) st) (c .before .before .put-refused2 .ensures .0), omega (arith, c .before .before .put-refused2 .ensures .1))
+    let e = sym (c .before .before .before .before .before .before .before .tag-at .ensures) ∙ ap paperTagAt (c .before .before .before .before .before .refusal .given .1) in
+    (come (l .inv .6) (rest-refused (a .frame .now) (l .place) (l .blocks) (l .numbers) (omega arith) (a .number) (l .tags) _ _ e) (c .before .before .put-refused2 .ensures .0), omega (arith, c .before .before .put-refused2 .ensures .1))
 
 put-end-requires : tie.Need-put-end-requires Inv-loop μ-loop
 put-end-requires c κs = search needs

@@ -1,10 +1,8 @@
 -- `dump::put_header` meets its contract: the frame's number, then the header's words.
 -- Assumes nothing.
-use Rattle.dump.proofs.Puts.{then-line}
+use Rattle.dump.proofs.Words.{number, others}
 use Rattle.dump.specs.Frame.{headerLine, headerWords}
-use Rattle.dump.specs.Text.{decimal}
 use Rattle.headers.specs.Header.{headerOf}
-use lib.Dec.{lit<}
 use native.Mathlib.Omega.{arith}
 use borrow.Author.Needs.{needs}
 use Rattle.dump.proofs.header_line.put_header.Statement.{statement}
@@ -21,8 +19,7 @@ same-length c = search needs
 
 returns : tie.Need-returns
 unfolding headerLine
-returns c = let a = c .before .before .before .before .before .before .before .before .before .args in
-    (then-line (decimal (a .frame)) (headerWords (headerOf (a .header))) (omega arith) (c .before .before .before .before .before .before .put-number .ensures .0) (c .before .before .put-header-words .ensures .0), omega arith)
+returns c = (number _ (c .before .before .before .before .before .before .put-number .ensures .0) (others (headerWords (headerOf (c .before .before .before .before .before .before .before .before .before .args .header))) (omega arith) (c .before .before .put-header-words .ensures .0)) .text, omega arith)
 
 pub put-header-spec : {M : Type 1} → statement M
 put-header-spec =

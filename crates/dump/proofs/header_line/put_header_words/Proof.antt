@@ -1,12 +1,9 @@
 -- `dump::put_header_words` meets its contract: in each arm the header's kind and fields are known, and put in order.
 -- Assumes nothing.
-use Rattle.dump.proofs.Puts.{then-line}
+use Rattle.dump.proofs.Words.{word, number, last}
 use Rattle.dump.specs.Frame.{kindWord}
-use Rattle.dump.specs.Text.{decimal}
 use Rattle.headers.specs.Header.{request, simple, complex, segment}
-use lib.Dec.{lit<}
 use native.Mathlib.Omega.{arith}
-use mathlib.Core.List.{[], _∷_}
 use borrow.Author.Needs.{needs}
 use Rattle.dump.proofs.header_line.put_header_words.Statement.{statement}
 use Rattle.dump.proofs.header_line.put_header_words.Tie as tie
@@ -117,29 +114,25 @@ same-length : tie.Need-same-length
 same-length c = search needs
 
 returns : tie.Need-returns
-returns c = let h = c .before .before .before .before .before .before .before .before .before .before .before .before .before .before .before .before .before .before .before .before .before .before .header .given .0 in
-    (rw (c .before .before .before .before .before .before .before .before .before .before .before .before .before .before .before .before .before .before .before .before .before .before .header .given .1) (then-line (kindWord request) (decimal (h .0) ∷ decimal (h .1 .0) ∷ decimal (h .1 .1 .0) ∷ decimal (h .1 .1 .1 .0) ∷ []) (lit< tt) (c .before .before .before .before .before .before .before .before .before .before .before .before .before .before .before .before .before .before .put-word .ensures .0) (then-line (decimal (h .0)) (decimal (h .1 .0) ∷ decimal (h .1 .1 .0) ∷ decimal (h .1 .1 .1 .0) ∷ []) (lit< tt) (c .before .before .before .before .before .before .before .before .before .before .before .before .before .before .put-number .ensures .0) (then-line (decimal (h .1 .0)) (decimal (h .1 .1 .0) ∷ decimal (h .1 .1 .1 .0) ∷ []) (lit< tt) (c .before .before .before .before .before .before .before .before .before .before .put-number2 .ensures .0) (then-line (decimal (h .1 .1 .0)) (decimal (h .1 .1 .1 .0) ∷ []) (lit< tt) (c .before .before .before .before .before .before .put-number3 .ensures .0) (c .before .before .put-number4 .ensures .0))))), omega arith)
+returns c = (rw (c .before .before .before .before .before .before .before .before .before .before .before .before .before .before .before .before .before .before .before .before .before .before .header .given .1) (word (kindWord request) (c .before .before .before .before .before .before .before .before .before .before .before .before .before .before .before .before .before .before .put-word .ensures .0) (number _ (c .before .before .before .before .before .before .before .before .before .before .before .before .before .before .put-number .ensures .0) (number _ (c .before .before .before .before .before .before .before .before .before .before .put-number2 .ensures .0) (number _ (c .before .before .before .before .before .before .put-number3 .ensures .0) (last _ (c .before .before .put-number4 .ensures .0))))) .text), omega arith)
 
 same-length-2 : tie.Need-same-length-2
 same-length-2 c = search needs
 
 returns-2 : tie.Need-returns-2
-returns-2 c = let h = c .before .before .before .before .before .before .before .before .before .before .before .before .before .before .header2 .given .0 in
-    (rw (c .before .before .before .before .before .before .before .before .before .before .before .before .before .before .header2 .given .1) (then-line (kindWord simple) (decimal (h .0) ∷ decimal (h .1 .0) ∷ []) (lit< tt) (c .before .before .before .before .before .before .before .before .before .before .put-word2 .ensures .0) (then-line (decimal (h .0)) (decimal (h .1 .0) ∷ []) (lit< tt) (c .before .before .before .before .before .before .put-number5 .ensures .0) (c .before .before .put-number6 .ensures .0))), omega arith)
+returns-2 c = (rw (c .before .before .before .before .before .before .before .before .before .before .before .before .before .before .header2 .given .1) (word (kindWord simple) (c .before .before .before .before .before .before .before .before .before .before .put-word2 .ensures .0) (number _ (c .before .before .before .before .before .before .put-number5 .ensures .0) (last _ (c .before .before .put-number6 .ensures .0))) .text), omega arith)
 
 same-length-3 : tie.Need-same-length-3
 same-length-3 c = search needs
 
 returns-3 : tie.Need-returns-3
-returns-3 c = let h = c .before .before .before .before .before .before .before .before .before .before .before .before .before .before .header3 .given .0 in
-    (rw (c .before .before .before .before .before .before .before .before .before .before .before .before .before .before .header3 .given .1) (then-line (kindWord complex) (decimal (h .0) ∷ decimal (h .1 .0) ∷ []) (lit< tt) (c .before .before .before .before .before .before .before .before .before .before .put-word3 .ensures .0) (then-line (decimal (h .0)) (decimal (h .1 .0) ∷ []) (lit< tt) (c .before .before .before .before .before .before .put-number7 .ensures .0) (c .before .before .put-number8 .ensures .0))), omega arith)
+returns-3 c = (rw (c .before .before .before .before .before .before .before .before .before .before .before .before .before .before .header3 .given .1) (word (kindWord complex) (c .before .before .before .before .before .before .before .before .before .before .put-word3 .ensures .0) (number _ (c .before .before .before .before .before .before .put-number7 .ensures .0) (last _ (c .before .before .put-number8 .ensures .0))) .text), omega arith)
 
 same-length-4 : tie.Need-same-length-4
 same-length-4 c = search needs
 
 returns-4 : tie.Need-returns-4
-returns-4 c = let h = c .before .before .before .before .before .before .before .before .before .before .before .before .before .before .before .before .before .before .header4 .given .0 in
-    (rw (c .before .before .before .before .before .before .before .before .before .before .before .before .before .before .before .before .before .before .header4 .given .1) (then-line (kindWord segment) (decimal (h .0) ∷ decimal (h .1 .0) ∷ decimal (h .1 .1 .0) ∷ []) (lit< tt) (c .before .before .before .before .before .before .before .before .before .before .before .before .before .before .put-word4 .ensures .0) (then-line (decimal (h .0)) (decimal (h .1 .0) ∷ decimal (h .1 .1 .0) ∷ []) (lit< tt) (c .before .before .before .before .before .before .before .before .before .before .put-number9 .ensures .0) (then-line (decimal (h .1 .0)) (decimal (h .1 .1 .0) ∷ []) (lit< tt) (c .before .before .before .before .before .before .put-number10 .ensures .0) (c .before .before .put-number11 .ensures .0)))), omega arith)
+returns-4 c = (rw (c .before .before .before .before .before .before .before .before .before .before .before .before .before .before .before .before .before .before .header4 .given .1) (word (kindWord segment) (c .before .before .before .before .before .before .before .before .before .before .before .before .before .before .put-word4 .ensures .0) (number _ (c .before .before .before .before .before .before .before .before .before .before .put-number9 .ensures .0) (number _ (c .before .before .before .before .before .before .put-number10 .ensures .0) (last _ (c .before .before .put-number11 .ensures .0)))) .text), omega arith)
 
 pub put-header-words-spec : {M : Type 1} → statement M
 put-header-words-spec =

@@ -1,12 +1,8 @@
 -- `dump::put_tag_words` meets its contract: in each arm the tag's class and number are known, and its words are put in order.
 -- Assumes nothing.
-use lib.ListN.{length-append}
 use Prim.Native.Nat.{_<_}
-use Rattle.dump.proofs.Decimal.{decimal-most}
-use Rattle.dump.proofs.Puts.{then-line}
-use Rattle.dump.specs.Text.{decimal}
+use Rattle.dump.proofs.Words.{word, number, last, number-most}
 use Rattle.types.specs.Tag.{applicationOf}
-use lib.Dec.{lit<}
 use native.Mathlib.Omega.{arith}
 use mathlib.Core.List.{[], _∷_}
 use borrow.Author.Needs.{needs}
@@ -93,7 +89,9 @@ returns c = let n = c .before .before .before .before .before .before .before .n
     let v = c .before .before .before .before .before .before .before .before .before .before .before .before .before .before .before .before .before .before .before .args .tag .value in
     let few : n < 1000 = omega (arith, c .before .before .before .before .before .before .before .number2 .ensures .1) in
     let many : v < 10000000000 = omega arith in
-    (rw (c .before .before .before .before .before .before .before .before .before .before .before .before .before .before .before .number .given .1, ← c .before .before .before .before .before .before .before .number2 .ensures .0) (then-line (97 ∷ 112 ∷ 112 ∷ 108 ∷ 105 ∷ 99 ∷ 97 ∷ 116 ∷ 105 ∷ 111 ∷ 110 ∷ []) (decimal n ∷ decimal v ∷ []) (lit< tt) (c .before .before .before .before .before .before .before .before .before .before .before .put-word .ensures .0) (then-line (decimal n) (decimal v ∷ []) (lit< tt) (c .before .before .before .before .before .before .put-number .ensures .0) (c .before .before .put-number2 .ensures .0))), omega (arith, decimal-most 2 n few, decimal-most 9 v many, c .before .before .before .before .before .before .put-number .ensures .0 .after, length-append (decimal n) (32 ∷ []), c .before .before .put-number2 .ensures .0 .after, length-append (decimal v) (10 ∷ [])))
+    let a = c .before .before .before .before .before .before .put-number .ensures .0 in
+    let b = c .before .before .put-number2 .ensures .0 in
+    (rw (c .before .before .before .before .before .before .before .before .before .before .before .before .before .before .before .number .given .1, ← c .before .before .before .before .before .before .before .number2 .ensures .0) (word (97 ∷ 112 ∷ 112 ∷ 108 ∷ 105 ∷ 99 ∷ 97 ∷ 116 ∷ 105 ∷ 111 ∷ 110 ∷ []) (c .before .before .before .before .before .before .before .before .before .before .before .put-word .ensures .0) (number n a (last v b)) .text), omega (arith, number-most 2 n _ few a, number-most 9 v _ many b))
 
 same-length-2 : tie.Need-same-length-2
 same-length-2 c = search needs
@@ -103,21 +101,21 @@ returns-2 c = let n = c .before .before .before .before .before .before .before 
     let v = c .before .before .before .before .before .before .before .before .before .before .before .before .before .before .before .before .before .before .args .tag .value in
     let few : n < 1000 = omega arith in
     let many : v < 10000000000 = omega arith in
-    (rw (c .before .before .before .before .before .before .before .before .before .before .before .before .before .before .number3 .given .1) (then-line (99 ∷ 111 ∷ 110 ∷ 116 ∷ 101 ∷ 120 ∷ 116 ∷ []) (decimal n ∷ decimal v ∷ []) (lit< tt) (c .before .before .before .before .before .before .before .before .before .before .put-word2 .ensures .0) (then-line (decimal n) (decimal v ∷ []) (lit< tt) (c .before .before .before .before .before .before .put-number3 .ensures .0) (c .before .before .put-number4 .ensures .0))), omega (arith, decimal-most 2 n few, decimal-most 9 v many, c .before .before .before .before .before .before .put-number3 .ensures .0 .after, length-append (decimal n) (32 ∷ []), c .before .before .put-number4 .ensures .0 .after, length-append (decimal v) (10 ∷ [])))
+    let a = c .before .before .before .before .before .before .put-number3 .ensures .0 in
+    let b = c .before .before .put-number4 .ensures .0 in
+    (rw (c .before .before .before .before .before .before .before .before .before .before .before .before .before .before .number3 .given .1) (word (99 ∷ 111 ∷ 110 ∷ 116 ∷ 101 ∷ 120 ∷ 116 ∷ []) (c .before .before .before .before .before .before .before .before .before .before .put-word2 .ensures .0) (number n a (last v b)) .text), omega (arith, number-most 2 n _ few a, number-most 9 v _ many b))
 
 same-length-3 : tie.Need-same-length-3
 same-length-3 c = search needs
 
 returns-3 : tie.Need-returns-3
-returns-3 c = let n = c .before .before .before .before .before .before .before .before .before .before .number4 .given .0 .0 in
-    (rw (c .before .before .before .before .before .before .before .before .before .before .number4 .given .1) (then-line (111 ∷ 112 ∷ 101 ∷ 110 ∷ []) (decimal n ∷ []) (lit< tt) (c .before .before .before .before .before .before .put-word3 .ensures .0) (c .before .before .put-number5 .ensures .0)), omega arith)
+returns-3 c = (rw (c .before .before .before .before .before .before .before .before .before .before .number4 .given .1) (word (111 ∷ 112 ∷ 101 ∷ 110 ∷ []) (c .before .before .before .before .before .before .put-word3 .ensures .0) (last _ (c .before .before .put-number5 .ensures .0)) .text), omega arith)
 
 same-length-4 : tie.Need-same-length-4
 same-length-4 c = search needs
 
 returns-4 : tie.Need-returns-4
-returns-4 c = let n = c .before .before .before .before .before .before .before .before .before .before .number5 .given .0 .0 in
-    (rw (c .before .before .before .before .before .before .before .before .before .before .number5 .given .1) (then-line (99 ∷ 108 ∷ 111 ∷ 115 ∷ 101 ∷ []) (decimal n ∷ []) (lit< tt) (c .before .before .before .before .before .before .put-word4 .ensures .0) (c .before .before .put-number6 .ensures .0)), omega arith)
+returns-4 c = (rw (c .before .before .before .before .before .before .before .before .before .before .number5 .given .1) (word (99 ∷ 108 ∷ 111 ∷ 115 ∷ 101 ∷ []) (c .before .before .before .before .before .before .put-word4 .ensures .0) (last _ (c .before .before .put-number6 .ensures .0)) .text), omega arith)
 
 pub put-tag-words-spec : {M : Type 1} → statement M
 put-tag-words-spec =

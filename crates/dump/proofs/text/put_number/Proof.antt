@@ -1,16 +1,20 @@
 -- `dump::put_number` meets its contract: the digits, one to four or as many as there are, and the byte behind them.
 -- Assumes nothing.
 use Rattle.dump.proofs.Decimal.{decimal-one, decimal-two, decimal-three, decimal-four, decimal-most}
-use Rattle.dump.proofs.Puts.{then, one, two}
-use Rattle.dump.specs.Text.{Wrote, digits}
-use lib.ListN.{set, length-set}
+use Rattle.dump.proofs.Puts.{then, one, two, ended}
+use Rattle.dump.specs.Text.{decimal}
+use lib.ListN.{length, length-set}
 use native.Mathlib.Omega.{arith}
-use Prim.Native.Nat.{_+_, _/_, _%_, _^_, _<_}
+use Prim.Native.Nat.{_+_, _/_, _^_, _<_, _≤_}
 use mathlib.Core.List.{[], _∷_}
-use mathlib.Core.Path.{_≡_, refl}
+use mathlib.Core.Path.{refl}
 use borrow.Author.Needs.{needs}
 use Rattle.dump.proofs.text.put_number.Statement.{statement}
 use Rattle.dump.proofs.text.put_number.Tie as tie
+
+-- a number of 64 bits has at most twenty digits
+most : (c : tie.Start) → length (decimal (c .args .n)) ≤ 20
+most c = let h : c .args .n < 10 ^ 20 = omega arith in decimal-most 19 (c .args .n) h
 
 cast-out : tie.Need-cast-out
 cast-out c = search needs
@@ -54,8 +58,7 @@ same-length-2 c = search needs
 
 returns-2 : tie.Need-returns-2
 returns-2 c = let a = c .before .before .before .before .before .before .before .args in
-    let w : Wrote (a .out .now) (a .at) (digits 2 (a .n)) (c .before .before .put-two .last .0) (a .at + 2) = c .before .before .put-two .ensures in
-    (rw (decimal-two (a .n) (c .before .before .before .before .before .if1 .left) (c .before .before .before .before .if2 .taken)) (then w (one (c .before .before .put-two .last .0) (a .at + 2) (a .end) (omega arith))), omega arith)
+    (rw (decimal-two (a .n) (c .before .before .before .before .before .if1 .left) (c .before .before .before .before .if2 .taken)) (ended (a .at + 2) (a .end) (c .before .before .put-two .ensures) refl (omega arith)), omega arith)
 
 cast-out-2 : tie.Need-cast-out-2
 cast-out-2 c = search needs
@@ -86,10 +89,7 @@ same-length-3 c = let a = c .before .before .before .before .before .before .bef
 
 returns-3 : tie.Need-returns-3
 returns-3 c = let a = c .before .before .before .before .before .before .before .before .args in
-    let f : Wrote (a .out .now) (a .at) ((48 + a .n / 100) ∷ []) (set (a .out .now) (a .at) (48 + a .n / 100)) (a .at + 1) = one (a .out .now) (a .at) (48 + a .n / 100) refl in
-    let w : Wrote (set (a .out .now) (a .at) (48 + a .n / 100)) (a .at + 1) (digits 2 (a .n % 100)) (c .before .before .put-two2 .last .0) (a .at + 1 + 2) = c .before .before .put-two2 .ensures in
-    let e : a .at + 1 + 2 ≡ a .at + 3 = omega arith in
-    (rw (decimal-three (a .n) (c .before .before .before .before .before .if2 .left) (c .before .before .before .before .if3 .taken)) (then (then f (rw e at w)) (one (c .before .before .put-two2 .last .0) (a .at + 3) (a .end) (omega arith))), omega arith)
+    (rw (decimal-three (a .n) (c .before .before .before .before .before .if2 .left) (c .before .before .before .before .if3 .taken)) (ended (a .at + 3) (a .end) (then (one (a .out .now) (a .at) (48 + a .n / 100) refl) (c .before .before .put-two2 .ensures)) (omega arith) (omega arith)), omega arith)
 
 put-two-requires-3 : tie.Need-put-two-requires-3
 put-two-requires-3 c κs = search needs
@@ -114,33 +114,22 @@ same-length-4 c = simp length-set (omega arith)
 
 returns-4 : tie.Need-returns-4
 returns-4 c = let a = c .before .before .before .before .before .before .before .before .before .before .before .before .before .args in
-    let v : Wrote (a .out .now) (a .at) (digits 2 (a .n / 100)) (c .before .before .before .before .before .before .put-two3 .last .0) (a .at + 2) = c .before .before .before .before .before .before .put-two3 .ensures in
-    let w : Wrote (c .before .before .before .before .before .before .put-two3 .last .0) (a .at + 2) (digits 2 (a .n % 100)) (c .before .before .put-two4 .last .0) (a .at + 2 + 2) = c .before .before .put-two4 .ensures in
-    let e : a .at + 2 + 2 ≡ a .at + 4 = omega arith in
-    (rw (decimal-four (a .n) (c .before .before .before .before .before .before .before .before .before .if3 .left) (c .before .before .before .before .before .before .before .before .if4 .taken)) (then (then v (rw e at w)) (one (c .before .before .put-two4 .last .0) (a .at + 4) (a .end) (omega arith))), omega arith)
+    (rw (decimal-four (a .n) (c .before .before .before .before .before .before .before .before .before .if3 .left) (c .before .before .before .before .before .before .before .before .if4 .taken)) (ended (a .at + 4) (a .end) (then (c .before .before .before .before .before .before .put-two3 .ensures) (c .before .before .put-two4 .ensures)) (omega arith) (omega arith)), omega arith)
 
 put-digits-requires : tie.Need-put-digits-requires
-put-digits-requires c κs = let a = c .before .before .before .before .before .before .args in
-    let h : a .n < 10 ^ 20 = omega arith in
-    omega (arith, decimal-most 19 (a .n) h)
+put-digits-requires c κs = omega (arith, most (c .before .before .before .before .before .before))
 
 slice-write-out-7 : tie.Need-slice-write-out-7
-slice-write-out-7 c = let a = c .before .before .before .before .before .before .before .before .before .args in
-    let h : a .n < 10 ^ 20 = omega arith in
-    omega (arith, decimal-most 19 (a .n) h, c .before .before .put-digits .ensures .after)
+slice-write-out-7 c = omega (arith, most (c .before .before .before .before .before .before .before .before .before), c .before .before .put-digits .ensures .after)
 
 add-result-5 : tie.Need-add-result-5
-add-result-5 c = let a = c .before .before .before .before .before .before .before .before .before .args in
-    let h : a .n < 10 ^ 20 = omega arith in
-    omega (arith, decimal-most 19 (a .n) h, c .before .before .put-digits .ensures .after)
+add-result-5 c = omega (arith, most (c .before .before .before .before .before .before .before .before .before), c .before .before .put-digits .ensures .after)
 
 same-length-5 : tie.Need-same-length-5
 same-length-5 c = search needs
 
 returns-5 : tie.Need-returns-5
-returns-5 c = let a = c .before .before .before .before .before .before .before .before .before .args in
-    let h : a .n < 10 ^ 20 = omega arith in
-    (then (c .before .before .put-digits .ensures) (one (c .before .before .put-digits .last .0) (c .before .before .put-digits .result) (a .end) refl), omega (arith, decimal-most 19 (a .n) h, c .before .before .put-digits .ensures .after))
+returns-5 c = (ended _ (c .before .before .before .before .before .before .before .before .before .args .end) (c .before .before .put-digits .ensures) refl refl, omega (arith, most (c .before .before .before .before .before .before .before .before .before), c .before .before .put-digits .ensures .after))
 
 pub put-number-spec : {M : Type 1} → statement M
 put-number-spec =
