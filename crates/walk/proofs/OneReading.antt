@@ -7,6 +7,7 @@ use mathlib.Core.List.{List, [], _∷_, _++_, append-assoc}
 use lib.ListN.{length, length-append}
 use Rattle.types.specs.Tag.{Number, application, context, opening, closing, Tag, tag}
 use Rattle.tags.specs.Header.{IsTag}
+use Rattle.tags.proofs.Exactly.{tag-length}
 use Rattle.tags.proofs.OneTag.{OneTag, one-tag, same-front}
 use Rattle.bodies.specs.Item.{contentLength}
 use Rattle.walk.specs.Walk.{Seen, seen}
