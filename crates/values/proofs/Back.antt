@@ -35,7 +35,7 @@ use Rattle.values.specs.Reading.{valueFrom}
 use Rattle.values.specs.Writing.{dateBytes, timeBytes, bytesOf, valueBytes, textBy, textWritable, writableValue, valueTo}
 use Rattle.values.specs.Content.{Content, ofBoolean, ofUnsigned, ofSigned, ofReal, ofDouble, ofOctetString, ofText, ofBitString, ofEnumerated, ofDate, ofTime, ofObjectId}
 use Rattle.values.proofs.Exactly.{ValueAt, read-exactly}
-use Rattle.values.proofs.Writable.{date-fits, id-fits}
+use Rattle.values.proofs.Fits.{date-fits, id-fits}
 
 -- the value as it reads back where its content begins at a place: text, octets and bits are the part that holds the lent bytes
 abbrev pub placed : Value → ℕ → List ℕ → Value

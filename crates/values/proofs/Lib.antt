@@ -2,6 +2,6 @@ pub mod Patterns
 pub mod Exactly
 pub mod Single
 pub mod Examples
-pub mod Writable
+pub mod Fits
 pub mod Back
 pub mod Again

@@ -4,6 +4,7 @@ mod float;
 mod reading;
 mod text;
 mod value;
+mod writable;
 mod writing;
 
 pub use float::double_bits;

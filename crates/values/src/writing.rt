@@ -3,25 +3,24 @@ ghost use mathlib.Core.Path.{_≡_};
 ghost use mathlib.Core.List.{_∷_};
 ghost use Prim.Native.Nat.{_+_, _*_, _≤_};
 ghost use lib.ListN.{length};
-ghost use Rattle.types.specs.Answer.{paperOutcome};
 ghost use Rattle.types.specs.Tag.{application, applicationOf, tag};
 ghost use Rattle.types.specs.Writing.{paperWritten, can, left, over, writing};
 ghost use Rattle.tags.specs.Item.{itemTo, booleanByte};
 ghost use Rattle.tags.specs.Writing.{tagTo};
 ghost use Rattle.values.specs.Value.{valueOf};
-ghost use Rattle.values.specs.Writing.{dateWritable, objectIdWritable, bitsWritable, textWritable, writableValue, outcomeOf, valueBytes, valueTo};
+ghost use Rattle.values.specs.Writing.{writableValue, valueBytes, valueTo};
 use crate::bytes::eight_bytes;
 use crate::bytes::four_bytes;
 use crate::float::double_bits;
 use crate::float::real_bits;
 use crate::value::ApplicationDataValue;
+use crate::writable::writable;
 use types::ApplicationTagNumber;
 use types::Outcome;
 use types::Refusal;
 use types::Tag;
 use types::TagNumber;
 use types::Written;
-use utf8::Checked;
 
 // Writes a value; the content of text, octets and bits is the whole lent slice.
 pub fn encode(value: ApplicationDataValue, content: &[u8], buf: &mut [u8], place: usize) -> Written
@@ -39,82 +38,6 @@ pub fn encode(value: ApplicationDataValue, content: &[u8], buf: &mut [u8], place
     match writable(value, content) {
         Outcome::Passed => write(value, content, buf, place),
         Outcome::Refused(r) => Written::Refused(r),
-    }
-}
-
-// Whether a value can be written at all.
-fn writable(value: ApplicationDataValue, content: &[u8]) -> Outcome
-    ensures { λ r. ⌜ paperOutcome r ≡ outcomeOf (writableValue (valueOf value) (now (content .entry))) ⌝ }
-{
-    match value {
-        ApplicationDataValue::Boolean(_) => Outcome::Passed,
-        ApplicationDataValue::Real(_) => Outcome::Passed,
-        ApplicationDataValue::Double(_) => Outcome::Passed,
-        ApplicationDataValue::Date(date) => date_writable(date.year),
-        ApplicationDataValue::Time(_) => Outcome::Passed,
-        ApplicationDataValue::ObjectId(id) => id_writable(id.object_type, id.instance),
-        ApplicationDataValue::CharacterString { place: _, len: _ } => text_writable(content),
-        ApplicationDataValue::OctetString { place: _, len: _ } => Outcome::Passed,
-        ApplicationDataValue::Enumerated(_) => Outcome::Passed,
-        ApplicationDataValue::BitString {
-            unused_bits,
-            place: _,
-            len: _,
-        } => bits_writable(unused_bits, content),
-        ApplicationDataValue::UnsignedInt(_) => Outcome::Passed,
-        ApplicationDataValue::SignedInt(_) => Outcome::Passed,
-    }
-}
-
-// Whether a year is one that a date's byte tells.
-fn date_writable(year: u16) -> Outcome
-    ensures { λ r. ⌜ paperOutcome r ≡ outcomeOf (dateWritable year) ⌝ }
-{
-    if year < 1900 {
-        return Outcome::Refused(Refusal::CannotBeWritten);
-    }
-    if 2155 < year {
-        return Outcome::Refused(Refusal::CannotBeWritten);
-    }
-    Outcome::Passed
-}
-
-// Whether an identifier fits ten bits and 22.
-fn id_writable(object_type: u16, instance: u32) -> Outcome
-    ensures { λ r. ⌜ paperOutcome r ≡ outcomeOf (objectIdWritable «object_type» instance) ⌝ }
-{
-    if 1023 < object_type {
-        return Outcome::Refused(Refusal::CannotBeWritten);
-    }
-    if 4194303 < instance {
-        return Outcome::Refused(Refusal::CannotBeWritten);
-    }
-    Outcome::Passed
-}
-
-// Whether so many bits of the lent bytes can be unused.
-fn bits_writable(unused_bits: u8, content: &[u8]) -> Outcome
-    ensures { λ r. ⌜ paperOutcome r ≡ outcomeOf (bitsWritable «unused_bits» (now (content .entry))) ⌝ }
-{
-    if 7 < unused_bits {
-        return Outcome::Refused(Refusal::CannotBeWritten);
-    }
-    if unused_bits == 0 {
-        return Outcome::Passed;
-    }
-    if content.len() == 0 {
-        return Outcome::Refused(Refusal::CannotBeWritten);
-    }
-    Outcome::Passed
-}
-
-// Whether the lent bytes are UTF-8.
-fn text_writable(content: &[u8]) -> Outcome
-    ensures { λ r. ⌜ paperOutcome r ≡ outcomeOf (textWritable (now (content .entry))) ⌝ }
-{
-    match utf8::check(content) {
-        Checked::Good => Outcome::Passed,
-        Checked::BadAt(bad) => Outcome::Refused(Refusal::TextNotUtf8(bad)),
     }
 }
 

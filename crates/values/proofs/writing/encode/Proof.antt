@@ -9,7 +9,7 @@ use Rattle.types.specs.Refusal.{table}
 use Rattle.types.specs.Writing.{Writable, can, cannot, writeAnswer, writing}
 use Rattle.values.specs.Value.{valueOf}
 use Rattle.values.specs.Writing.{writableValue, outcomeOf, valueBytes, valueTo}
-use Rattle.values.proofs.Writable.{passed-can, stopped-cannot}
+use Rattle.values.proofs.Fits.{passed-can, stopped-cannot}
 use Rattle.values.proofs.writing.encode.Statement.{statement}
 use Rattle.values.proofs.writing.encode.Tie as tie
 

@@ -7,7 +7,7 @@ use mathlib.Core.List.{List}
 use lib.ListN.{length, set, length-set}
 use Rattle.types.specs.Writing.{Left}
 use Rattle.numbers.proofs.Wrote.{write-fits}
-use Rattle.values.proofs.Writable.{front-filled}
+use Rattle.values.proofs.Fits.{front-filled}
 use Rattle.values.proofs.writing.fill.Statement.{statement}
 use Rattle.values.proofs.writing.fill.Tie as tie
 

@@ -18,7 +18,7 @@ use Rattle.tags.specs.Writing.{hasNoValue, tagTo}
 use Rattle.values.specs.Value.{valueOf}
 use Rattle.values.specs.Writing.{writableValue, valueBytes}
 use Rattle.values.specs.declared.value.ApplicationDataValue.{ApplicationDataValue}
-use Rattle.values.proofs.Writable.{date-fits, id-fits}
+use Rattle.values.proofs.Fits.{date-fits, id-fits}
 use Rattle.values.proofs.writing.write.Statement.{statement}
 use Rattle.values.proofs.writing.write.Tie as tie
 

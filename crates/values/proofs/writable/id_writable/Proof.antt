@@ -2,8 +2,8 @@
 -- Assumes nothing.
 use borrow.Author.Tests.{lt-ltb, le-ltb}
 use Rattle.values.specs.Writing.{objectIdWritable}
-use Rattle.values.proofs.writing.id_writable.Statement.{statement}
-use Rattle.values.proofs.writing.id_writable.Tie as tie
+use Rattle.values.proofs.writable.id_writable.Statement.{statement}
+use Rattle.values.proofs.writable.id_writable.Tie as tie
 
 returns : tie.Need-returns
 unfolding objectIdWritable

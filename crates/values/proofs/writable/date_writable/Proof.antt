@@ -2,8 +2,8 @@
 -- Assumes nothing.
 use borrow.Author.Tests.{lt-ltb, le-ltb}
 use Rattle.values.specs.Writing.{dateWritable}
-use Rattle.values.proofs.writing.date_writable.Statement.{statement}
-use Rattle.values.proofs.writing.date_writable.Tie as tie
+use Rattle.values.proofs.writable.date_writable.Statement.{statement}
+use Rattle.values.proofs.writable.date_writable.Tie as tie
 
 returns : tie.Need-returns
 unfolding dateWritable

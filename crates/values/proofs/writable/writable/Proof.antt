@@ -2,8 +2,8 @@
 -- Assumes nothing.
 use borrow.Author.Needs.{needs}
 use Rattle.values.specs.Writing.{writableValue}
-use Rattle.values.proofs.writing.writable.Statement.{statement}
-use Rattle.values.proofs.writing.writable.Tie as tie
+use Rattle.values.proofs.writable.writable.Statement.{statement}
+use Rattle.values.proofs.writable.writable.Tie as tie
 
 enum-told : tie.Need-enum-told
 enum-told c = search needs

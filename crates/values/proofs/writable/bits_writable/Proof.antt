@@ -2,8 +2,8 @@
 -- Assumes nothing.
 use borrow.Author.Tests.{lt-ltb, le-ltb, eq-eqb, ne-eqb}
 use Rattle.values.specs.Writing.{bitsWritable}
-use Rattle.values.proofs.writing.bits_writable.Statement.{statement}
-use Rattle.values.proofs.writing.bits_writable.Tie as tie
+use Rattle.values.proofs.writable.bits_writable.Statement.{statement}
+use Rattle.values.proofs.writable.bits_writable.Tie as tie
 
 returns : tie.Need-returns
 unfolding bitsWritable

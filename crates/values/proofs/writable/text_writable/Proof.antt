@@ -4,8 +4,8 @@ use borrow.Author.Needs.{needs}
 use mathlib.Core.Path.{sym, ap, _∙_}
 use Rattle.utf8.specs.Answer.{paperCheck}
 use Rattle.values.specs.Writing.{textWritable}
-use Rattle.values.proofs.writing.text_writable.Statement.{statement}
-use Rattle.values.proofs.writing.text_writable.Tie as tie
+use Rattle.values.proofs.writable.text_writable.Statement.{statement}
+use Rattle.values.proofs.writable.text_writable.Tie as tie
 
 check-requires : tie.Need-check-requires
 check-requires c κs = search needs
