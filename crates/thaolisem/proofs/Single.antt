@@ -47,7 +47,7 @@ use Rattle.utf8.specs.Answer.{paperCheck}
 use Rattle.utf8.proofs.Single.{single-checked}
 use Rattle.utf8.specs.declared.Checked.{Checked}
 use Rattle.values.specs.Value.{Value, boolean, real, double, onDate, atTime, objectId, characterString, octetString, enumerated, bitString, unsignedInt, signedInt, date, time, valueOf}
-use Rattle.values.specs.Reading.{paperRead}
+use Rattle.values.specs.Reading.{paperValue}
 use Rattle.values.specs.declared.reading.ValueRead.{ValueRead}
 use Rattle.values.specs.declared.reading.ValueRead.the-variants as v
 use Rattle.values.proofs.Single.{single-read}
@@ -246,12 +246,12 @@ abbrev pub HeldRead : ValueRead → Type 0
 HeldRead (v.Value x next) = Held (valueOf x)
 HeldRead (v.Refused x) = Unit {0}
 
-value-again : (x : ValueRead) → HeldRead x → valueBack (toldValue (paperRead x)) ≡ paperRead x
+value-again : (x : ValueRead) → HeldRead x → valueBack (toldValue (paperValue x)) ≡ paperValue x
 value-again (v.Value x next) h = case-again (valueOf x) next h
 value-again (v.Refused x) h = refusal-again valueFields x 0
 
-pub single-told-value : (x y : ValueRead) → HeldRead x → HeldRead y → toldValue (paperRead x) ≡ toldValue (paperRead y) → x ≡ y
-single-told-value x y hx hy e = single-read x y (apart toldValue valueBack (paperRead x) (paperRead y) (value-again x hx) (value-again y hy) e)
+pub single-told-value : (x y : ValueRead) → HeldRead x → HeldRead y → toldValue (paperValue x) ≡ toldValue (paperValue y) → x ≡ y
+single-told-value x y hx hy e = single-read x y (apart toldValue valueBack (paperValue x) (paperValue y) (value-again x hx) (value-again y hy) e)
 
 abbrev headerIn : List ℕ → headers.Header
 headerIn l =

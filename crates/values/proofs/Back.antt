@@ -32,7 +32,7 @@ use Rattle.utf8.specs.Check.{Verdict, good, badAt, checkOf}
 use Rattle.utf8.proofs.Exactly.{good-exactly}
 use Rattle.values.specs.Value.{Value, boolean, real, double, onDate, atTime, objectId, characterString, octetString, enumerated, bitString, unsignedInt, signedInt, date}
 use Rattle.values.specs.Reading.{valueFrom}
-use Rattle.values.specs.Writing.{dateBytes, timeBytes, bytesOf, valueBytes, textBy, textWritable, writableValue, valueTo}
+use Rattle.values.specs.Writing.{dateBytes, timeBytes, bytesOf, valueBytes, textWritableBy, textWritable, writableValue, valueTo}
 use Rattle.values.specs.Content.{Content, ofBoolean, ofUnsigned, ofSigned, ofReal, ofDouble, ofOctetString, ofText, ofBitString, ofEnumerated, ofDate, ofTime, ofObjectId}
 use Rattle.values.proofs.Exactly.{ValueAt, read-exactly}
 use Rattle.values.proofs.Fits.{date-fits, id-fits}
@@ -116,7 +116,7 @@ text-good : (lent : List ℕ) → textWritable lent ≡ can → checkOf lent ≡
 unfolding textWritable
 text-good lent e = go (checkOf lent) e
   where
-    go : (v : Verdict) → textBy v ≡ can → v ≡ good
+    go : (v : Verdict) → textWritableBy v ≡ can → v ≡ good
     go good h = refl
     go (badAt p) h = let z : _≡_ {A = ℕ} 0 1 = cc in absurd (omega arith)
 

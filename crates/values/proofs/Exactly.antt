@@ -28,7 +28,7 @@ use Rattle.utf8.specs.Check.{Verdict, good, badAt, checkOf}
 use Rattle.utf8.specs.Text.{Text}
 use Rattle.utf8.proofs.Exactly.{good-exactly}
 use Rattle.values.specs.Value.{Value, boolean, real, double, onDate, atTime, objectId, characterString, octetString, enumerated, bitString, unsignedInt, signedInt, date, time}
-use Rattle.values.specs.Reading.{booleanUnder, unsignedUnder, signedUnder, realUnder, octetsUnder, textBy, textIn, textUnder, bitsUnder, enumeratedUnder, dateUnder, timeUnder, objectIdUnder, ofKind, byNumber, underTag, valueFrom}
+use Rattle.values.specs.Reading.{booleanUnder, unsignedUnder, signedUnder, realUnder, octetsUnder, textRead, textIn, textUnder, bitsUnder, enumeratedUnder, dateUnder, timeUnder, objectIdUnder, ofKind, byNumber, underTag, valueFrom}
 use Rattle.values.specs.Content.{Content, ofBoolean, ofUnsigned, ofSigned, ofReal, ofDouble, ofOctetString, ofText, ofBitString, ofEnumerated, ofDate, ofTime, ofObjectId}
 
 -- content that was read: it stands at the place, and is the value
@@ -146,7 +146,7 @@ module _ (xs : List ℕ) (place : ℕ) where
       (λ h. tt))
       (λ n c g. tt))
     where
-      go : (len after : ℕ) → 1 ≤ len → ByteFound xs place 0 after → (part : Part) (next : ℕ) (s : SliceFound (len - 1) xs after part next) (v : Verdict) → checkOf (s .bytes) ≡ v → Or (tag (application 7) len) xs place (textBy v part next)
+      go : (len after : ℕ) → 1 ≤ len → ByteFound xs place 0 after → (part : Part) (next : ℕ) (s : SliceFound (len - 1) xs after part next) (v : Verdict) → checkOf (s .bytes) ≡ v → Or (tag (application 7) len) xs place (textRead v part next)
       go len after l f part next s good e = first-and-part 7 len 0 after l f part next s characterString (ofText (s .bytes) (good-exactly (s .bytes) .0 e))
       go len after l f part next s (badAt q) e = tt
 

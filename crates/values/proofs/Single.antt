@@ -6,7 +6,7 @@ use Rattle.types.specs.Refusal.{row}
 use Rattle.types.specs.Answer.{Answer, accepted, refused}
 use Rattle.types.proofs.Single.{told-apart, programRefusal, refusal-back}
 use Rattle.values.specs.Value.{Value, boolean, real, double, onDate, atTime, objectId, characterString, octetString, enumerated, bitString, unsignedInt, signedInt, valueOf}
-use Rattle.values.specs.Reading.{paperRead}
+use Rattle.values.specs.Reading.{paperValue}
 use Rattle.values.specs.declared.value.ApplicationDataValue.{ApplicationDataValue}
 use Rattle.values.specs.declared.value.ApplicationDataValue.the-variants as v
 use Rattle.values.specs.declared.reading.ValueRead.{ValueRead}
@@ -48,9 +48,9 @@ abbrev read : Answer Value → ValueRead
 read (accepted x next) = r.Value (programValue x) next
 read (refused k c) = r.Refused (programRefusal (row k c))
 
-read-back : (x : ValueRead) → read (paperRead x) ≡ x
+read-back : (x : ValueRead) → read (paperValue x) ≡ x
 read-back (r.Value x next) = ap (λ (y : ApplicationDataValue). r.Value y next) (value-back x)
 read-back (r.Refused x) = ap r.Refused (refusal-back x)
 
-pub single-read : (x y : ValueRead) → paperRead x ≡ paperRead y → x ≡ y
-single-read = told-apart paperRead read read-back
+pub single-read : (x y : ValueRead) → paperValue x ≡ paperValue y → x ≡ y
+single-read = told-apart paperValue read read-back

@@ -40,12 +40,12 @@ unfoldable pub octetsUnder : ℕ → List ℕ → ℕ → Answer Value
 octetsUnder len xs place = then (sliceFrom len xs place) (λ part next. accepted (octetString part) next)
 
 -- Character String (20.2.9): the set byte, which is to be 0 (UTF-8), and then the text
-abbrev pub textBy : Verdict → Part → ℕ → Answer Value
-textBy good part next = accepted (characterString part) next
-textBy (badAt place) part next = refused 10 (amount place)
+abbrev pub textRead : Verdict → Part → ℕ → Answer Value
+textRead good part next = accepted (characterString part) next
+textRead (badAt place) part next = refused 10 (amount place)
 
 unfoldable pub textIn : List ℕ → Part → ℕ → Answer Value
-textIn xs part next = textBy (checkOf (bytesIn xs part)) part next
+textIn xs part next = textRead (checkOf (bytesIn xs part)) part next
 
 unfoldable pub textUnder : ℕ → List ℕ → ℕ → Answer Value
 textUnder len xs place =
@@ -121,6 +121,6 @@ underTag t xs place = byNumber (t .number) t xs place
 unfoldable pub valueFrom : List ℕ → ℕ → Answer Value
 valueFrom xs place = then (tagFrom xs place) (λ t next. underTag t xs next)
 
-abbrev pub paperRead : ValueRead → Answer Value
-paperRead (r.Value x next) = accepted (valueOf x) next
-paperRead (r.Refused x) = refusal x
+abbrev pub paperValue : ValueRead → Answer Value
+paperValue (r.Value x next) = accepted (valueOf x) next
+paperValue (r.Refused x) = refusal x

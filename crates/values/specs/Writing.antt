@@ -58,12 +58,12 @@ unfoldable pub bitsWritable : ℕ → List ℕ → Writable
 bitsWritable unused lent = if (ltb 7 unused) never (if (eqb unused 0) can (if (eqb (length lent) 0) never can))
 
 -- text that is UTF-8, else 10 with the first bad place
-abbrev pub textBy : Verdict → Writable
-textBy good = can
-textBy (badAt place) = cannot 10 (amount place)
+abbrev pub textWritableBy : Verdict → Writable
+textWritableBy good = can
+textWritableBy (badAt place) = cannot 10 (amount place)
 
 unfoldable pub textWritable : List ℕ → Writable
-textWritable lent = textBy (checkOf lent)
+textWritable lent = textWritableBy (checkOf lent)
 
 -- whether a value can be written at all
 abbrev pub writableBy : Value → List ℕ → Writable

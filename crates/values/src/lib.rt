@@ -19,6 +19,5 @@ pub use value::ObjectId;
 pub use value::Time;
 pub use writing::encode;
 
-// Single bytes and lent slices are read and written by the layers below: handed on to the layer above.
-pub use tags::extend_from_slice;
+// Single bytes are read by the layer below: handed on to the layer above.
 pub use tags::read_byte;

@@ -3,7 +3,7 @@ ghost use mathlib.Core.Path.{_≡_};
 ghost use Prim.Native.Nat.{_+_, _≤_};
 ghost use lib.ListN.{length};
 ghost use Rattle.types.specs.Tag.{tagOf, applicationOf};
-ghost use Rattle.values.specs.Reading.{valueFrom, underTag, ofKind, booleanUnder, unsignedUnder, signedUnder, realUnder, octetsUnder, bitsUnder, enumeratedUnder, dateUnder, timeUnder, objectIdUnder, paperRead};
+ghost use Rattle.values.specs.Reading.{valueFrom, underTag, ofKind, booleanUnder, unsignedUnder, signedUnder, realUnder, octetsUnder, bitsUnder, enumeratedUnder, dateUnder, timeUnder, objectIdUnder, paperValue};
 use crate::float::double_of;
 use crate::float::real_of;
 use crate::text::text;
@@ -30,7 +30,7 @@ pub enum ValueRead {
 
 // The value at a place.
 pub fn decode(buf: &[u8], place: usize) -> ValueRead
-    ensures { λ r. ⌜ paperRead r ≡ valueFrom (now (buf .entry)) place ⌝ }
+    ensures { λ r. ⌜ paperValue r ≡ valueFrom (now (buf .entry)) place ⌝ }
 {
     match tags::decode(buf, place) {
         TagRead::Read(tag, next) => under(tag, buf, next),
@@ -41,7 +41,7 @@ pub fn decode(buf: &[u8], place: usize) -> ValueRead
 // The value under a tag; context class is none.
 fn under(tag: Tag, buf: &[u8], place: usize) -> ValueRead
     requires { ⌜ place ≤ length (now buf) ⌝ }
-    ensures { λ r. ⌜ paperRead r ≡ underTag (tagOf tag) (now (buf .entry)) place ⌝ }
+    ensures { λ r. ⌜ paperValue r ≡ underTag (tagOf tag) (now (buf .entry)) place ⌝ }
 {
     let number = tag.number;
     match number {
@@ -55,7 +55,7 @@ fn under(tag: Tag, buf: &[u8], place: usize) -> ValueRead
 // The value under an application tag, by its name; Null, Double and the reserved ones are none.
 fn of_kind(name: ApplicationTagNumber, tag: Tag, buf: &[u8], place: usize) -> ValueRead
     requires { ⌜ place ≤ length (now buf) ⌝ }
-    ensures { λ r. ⌜ paperRead r ≡ ofKind (applicationOf name) (tagOf tag) (now (buf .entry)) place ⌝ }
+    ensures { λ r. ⌜ paperValue r ≡ ofKind (applicationOf name) (tagOf tag) (now (buf .entry)) place ⌝ }
 {
     let len = tag.value;
     match name {
@@ -80,14 +80,14 @@ fn of_kind(name: ApplicationTagNumber, tag: Tag, buf: &[u8], place: usize) -> Va
 
 // The Boolean that a tag's value tells.
 fn boolean(value: u32, place: usize) -> ValueRead
-    ensures { λ r. ⌜ paperRead r ≡ booleanUnder value place ⌝ }
+    ensures { λ r. ⌜ paperValue r ≡ booleanUnder value place ⌝ }
 {
     ValueRead::Value(ApplicationDataValue::Boolean(0 < value), place)
 }
 
 // The unsigned integer whose content has this length.
 fn unsigned(len: u32, buf: &[u8], place: usize) -> ValueRead
-    ensures { λ r. ⌜ paperRead r ≡ unsignedUnder len (now (buf .entry)) place ⌝ }
+    ensures { λ r. ⌜ paperValue r ≡ unsignedUnder len (now (buf .entry)) place ⌝ }
 {
     match tags::decode_unsigned(len, buf, place) {
         UnsignedRead::Unsigned(value, next) => ValueRead::Value(
@@ -100,7 +100,7 @@ fn unsigned(len: u32, buf: &[u8], place: usize) -> ValueRead
 
 // The signed integer whose content has this length.
 fn signed(len: u32, buf: &[u8], place: usize) -> ValueRead
-    ensures { λ r. ⌜ paperRead r ≡ signedUnder len (now (buf .entry)) place ⌝ }
+    ensures { λ r. ⌜ paperValue r ≡ signedUnder len (now (buf .entry)) place ⌝ }
 {
     match tags::decode_signed(len, buf, place) {
         SignedRead::Signed(value, next) => ValueRead::Value(
@@ -113,7 +113,7 @@ fn signed(len: u32, buf: &[u8], place: usize) -> ValueRead
 
 // The real of four bytes, or the double of eight.
 fn real(len: u32, buf: &[u8], place: usize) -> ValueRead
-    ensures { λ r. ⌜ paperRead r ≡ realUnder len (now (buf .entry)) place ⌝ }
+    ensures { λ r. ⌜ paperValue r ≡ realUnder len (now (buf .entry)) place ⌝ }
 {
     if len == 4 {
         return match tags::read_four_bytes(buf, place) {
@@ -138,7 +138,7 @@ fn real(len: u32, buf: &[u8], place: usize) -> ValueRead
 
 // Where an octet string of this length lies.
 fn octets(len: u32, buf: &[u8], place: usize) -> ValueRead
-    ensures { λ r. ⌜ paperRead r ≡ octetsUnder len (now (buf .entry)) place ⌝ }
+    ensures { λ r. ⌜ paperValue r ≡ octetsUnder len (now (buf .entry)) place ⌝ }
 {
     match tags::read_slice(len, buf, place) {
         SliceRead::Slice {
@@ -160,7 +160,7 @@ fn octets(len: u32, buf: &[u8], place: usize) -> ValueRead
 
 // A bit string's unused count, and where its bytes lie.
 fn bits(len: u32, buf: &[u8], place: usize) -> ValueRead
-    ensures { λ r. ⌜ paperRead r ≡ bitsUnder len (now (buf .entry)) place ⌝ }
+    ensures { λ r. ⌜ paperValue r ≡ bitsUnder len (now (buf .entry)) place ⌝ }
 {
     if len < 1 {
         return ValueRead::Refused(Refusal::LengthNotAllowed(len));
@@ -189,7 +189,7 @@ fn bits(len: u32, buf: &[u8], place: usize) -> ValueRead
 
 // The enumerated value whose content has this length.
 fn enumerated(len: u32, buf: &[u8], place: usize) -> ValueRead
-    ensures { λ r. ⌜ paperRead r ≡ enumeratedUnder len (now (buf .entry)) place ⌝ }
+    ensures { λ r. ⌜ paperValue r ≡ enumeratedUnder len (now (buf .entry)) place ⌝ }
 {
     match tags::decode_unsigned(len, buf, place) {
         UnsignedRead::Unsigned(value, next) => {
@@ -204,7 +204,7 @@ fn enumerated(len: u32, buf: &[u8], place: usize) -> ValueRead
 
 // The date of four bytes.
 fn date(len: u32, buf: &[u8], place: usize) -> ValueRead
-    ensures { λ r. ⌜ paperRead r ≡ dateUnder len (now (buf .entry)) place ⌝ }
+    ensures { λ r. ⌜ paperValue r ≡ dateUnder len (now (buf .entry)) place ⌝ }
 {
     if len != 4 {
         return ValueRead::Refused(Refusal::LengthNotAllowed(len));
@@ -237,7 +237,7 @@ fn year_of(byte: u8) -> u16
 // The time of four bytes, each a single one: where one is missing, the buffer's end is carried.
 fn time(len: u32, buf: &[u8], place: usize) -> ValueRead
     requires { ⌜ place ≤ length (now buf) ⌝ }
-    ensures { λ r. ⌜ paperRead r ≡ timeUnder len (now (buf .entry)) place ⌝ }
+    ensures { λ r. ⌜ paperValue r ≡ timeUnder len (now (buf .entry)) place ⌝ }
 {
     if len != 4 {
         return ValueRead::Refused(Refusal::LengthNotAllowed(len));
@@ -256,7 +256,7 @@ fn time(len: u32, buf: &[u8], place: usize) -> ValueRead
 
 // The object identifier of four bytes: ten bits of type and 22 of instance.
 fn object_id(len: u32, buf: &[u8], place: usize) -> ValueRead
-    ensures { λ r. ⌜ paperRead r ≡ objectIdUnder len (now (buf .entry)) place ⌝ }
+    ensures { λ r. ⌜ paperValue r ≡ objectIdUnder len (now (buf .entry)) place ⌝ }
 {
     if len != 4 {
         return ValueRead::Refused(Refusal::LengthNotAllowed(len));

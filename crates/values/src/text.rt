@@ -3,7 +3,7 @@ ghost use mathlib.Core.Path.{_≡_};
 ghost use Prim.Native.Nat.{_+_, _≤_};
 ghost use lib.ListN.{length};
 ghost use Rattle.numbers.specs.Reading.{partAt};
-ghost use Rattle.values.specs.Reading.{textUnder, textIn, paperRead};
+ghost use Rattle.values.specs.Reading.{textUnder, textIn, paperValue};
 use crate::reading::ValueRead;
 use crate::value::ApplicationDataValue;
 use numbers::ByteRead;
@@ -13,7 +13,7 @@ use utf8::Checked;
 
 // Where a character string's text lies.
 pub(crate) fn text(len: u32, buf: &[u8], place: usize) -> ValueRead
-    ensures { λ r. ⌜ paperRead r ≡ textUnder len (now (buf .entry)) place ⌝ }
+    ensures { λ r. ⌜ paperValue r ≡ textUnder len (now (buf .entry)) place ⌝ }
 {
     if len < 1 {
         return ValueRead::Refused(Refusal::LengthNotAllowed(len));
@@ -39,7 +39,7 @@ pub(crate) fn text(len: u32, buf: &[u8], place: usize) -> ValueRead
 // The text of a part of the buffer, if it is UTF-8.
 fn checked(start: usize, size: u32, buf: &[u8], next: usize) -> ValueRead
     requires { ⌜ (next ≡ start + size) × (next ≤ length (now buf)) ⌝ }
-    ensures { λ r. ⌜ paperRead r ≡ textIn (now (buf .entry)) (partAt start size) next ⌝ }
+    ensures { λ r. ⌜ paperValue r ≡ textIn (now (buf .entry)) (partAt start size) next ⌝ }
 {
     match utf8::check(&buf[start..next]) {
         Checked::Good => ValueRead::Value(

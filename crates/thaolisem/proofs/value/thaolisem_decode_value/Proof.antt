@@ -2,7 +2,7 @@
 -- Assumes nothing.
 use borrow.Author.Needs.{needs}
 use mathlib.Core.Path.{sym, ap, _∙_}
-use Rattle.values.specs.Reading.{paperRead}
+use Rattle.values.specs.Reading.{paperValue}
 use Rattle.thaolisem.proofs.value.thaolisem_decode_value.Statement.{statement}
 use Rattle.thaolisem.proofs.value.thaolisem_decode_value.Tie as tie
 
@@ -22,10 +22,10 @@ refused-requires : tie.Need-refused-requires
 refused-requires c κs = search needs
 
 returns : tie.Need-returns
-returns c = simp (c .told .ensures, sym (c .before .before .before .before .decode .ensures) ∙ ap paperRead (c .before .before .value .given .1))
+returns c = simp (c .told .ensures, sym (c .before .before .before .before .decode .ensures) ∙ ap paperValue (c .before .before .value .given .1))
 
 returns-2 : tie.Need-returns-2
-returns-2 c = simp (c .refused .ensures, sym (c .before .before .before .before .decode .ensures) ∙ ap paperRead (c .before .before .r .given .1))
+returns-2 c = simp (c .refused .ensures, sym (c .before .before .before .before .decode .ensures) ∙ ap paperValue (c .before .before .r .given .1))
 
 pub thaolisem-decode-value-spec : {M : Type 1} → statement M
 thaolisem-decode-value-spec =
