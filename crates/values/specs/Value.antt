@@ -1,4 +1,4 @@
--- A value on paper, case by case, and the map from the program's values to it.
+-- A value on paper, case by case (document 01, "Values"; ASHRAE 135, 20.2.3 to 20.2.14), and the map from the program's values to it.
 -- Assumes nothing.
 use Prim.Native.Nat.{ℕ}
 use mathlib.Core.Bool.{Bool}

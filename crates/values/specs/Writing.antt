@@ -38,6 +38,7 @@ bytesOf (onDate d) lent = itemBytes (application 10) (dateBytes d)
 bytesOf (atTime t) lent = itemBytes (application 11) (timeBytes t)
 bytesOf (objectId n i) lent = itemBytes (application 12) (lowBytes 4 (n * 4194304 + i))
 
+-- a value's bytes
 unfoldable pub valueBytes : Value → List ℕ → List ℕ
 valueBytes v lent = bytesOf v lent
 
@@ -80,6 +81,7 @@ writableBy (onDate d) lent = dateWritable (d .year)
 writableBy (atTime t) lent = can
 writableBy (objectId n i) lent = objectIdWritable n i
 
+-- whether a value can be written, else 12 or 10
 unfoldable pub writableValue : Value → List ℕ → Writable
 writableValue v lent = writableBy v lent
 

@@ -1,6 +1,6 @@
 // The twelve cases of an application value.
 
-// A date; the weekday is 1 (Monday) to 7 (Sunday).
+// A date: its year is a byte plus 1900, the other fields are bytes as they stand.
 pub struct Date {
     pub year: u16,
     pub month: u8,
