@@ -14,7 +14,7 @@ use Rattle.types.specs.Refusal.{amount}
 use Rattle.types.specs.Answer.{accepted}
 use Rattle.types.proofs.Choices.{either}
 use Rattle.numbers.specs.Reading.{byteFrom}
-use Rattle.tags.specs.Reading.{numberFrom, valueFrom, tagAfter, tagFrom}
+use Rattle.tags.specs.Reading.{numberFrom, tagValueFrom, tagAfter, tagFrom}
 use Rattle.bodies.specs.Item.{contentOf}
 use Rattle.bodies.specs.Plain.{plainLength}
 use Rattle.bodies.specs.Scan.{stopped, onward, stepOf, stepFrom}
@@ -44,12 +44,12 @@ module _ (b : ℕ) (low : b % 8 ≤ 4) (few : b ≤ 247) where
 
   module _ (xs : List ℕ) (place : ℕ) (small : length xs ≤ 65535) (inside : place < length xs) (is : getD xs place 0 ≡ b) where
     application-tag : b / 8 % 2 ≡ 0 → tagFrom xs place ≡ accepted (tag (application (b / 16)) (b % 8)) (place + 1)
-    unfolding tagFrom byteFrom tagAfter numberFrom valueFrom
+    unfolding tagFrom byteFrom tagAfter numberFrom tagValueFrom
     application-tag a =
         simp (le-ltb 65535 (length xs) small, le-ltb (length xs) place (omega arith), lt-leb (length xs) place inside, is, eq-eqb (b / 8 % 2) 0 a, lt-ltb (b % 8) 5 (omega arith))
 
     context-tag : b / 8 % 2 ≡ 1 → tagFrom xs place ≡ accepted (tag (context (b / 16)) (b % 8)) (place + 1)
-    unfolding tagFrom byteFrom tagAfter numberFrom valueFrom
+    unfolding tagFrom byteFrom tagAfter numberFrom tagValueFrom
     context-tag a =
         simp (le-ltb 65535 (length xs) small, le-ltb (length xs) place (omega arith), lt-leb (length xs) place inside, is, ne-eqb (b / 8 % 2) 0 (λ z. omega arith), ne-eqb (b / 16) 15 (λ z. omega arith), ne-eqb (b % 8) 6 (λ z. omega arith), ne-eqb (b % 8) 7 (λ z. omega arith), lt-ltb (b % 8) 5 (omega arith))
 

@@ -7,7 +7,7 @@ use lib.ListN.{length}
 use Rattle.types.specs.Choice.{if}
 use Rattle.types.specs.Tag.{Number, application, context, opening, closing, Tag}
 use Rattle.types.specs.Answer.{Answer, accepted, refused, Outcome, passed, stopped}
-use Rattle.headers.specs.Header.{Kind, request, simple, complex, segment, Value, nibbles, number, choice, Header}
+use Rattle.headers.specs.Header.{Kind, request, simple, complex, segment, FieldValue, nibbles, number, choice, Header}
 use Rattle.headers.specs.Reading.{headerFrom}
 use Rattle.walk.specs.Walk.{Seen, Walk, walked, walkFrom}
 use Rattle.dump.specs.Text.{decimal, line}
@@ -20,7 +20,7 @@ kindWord complex = 99 ∷ 111 ∷ 109 ∷ 112 ∷ 108 ∷ 101 ∷ 120 ∷ []
 kindWord segment = 115 ∷ 101 ∷ 103 ∷ 109 ∷ 101 ∷ 110 ∷ 116 ∷ []
 
 -- the fields of a header, in order
-abbrev pub fieldWords : List Value → List (List ℕ)
+abbrev pub fieldWords : List FieldValue → List (List ℕ)
 fieldWords [] = []
 fieldWords (nibbles a b ∷ vs) = decimal a ∷ decimal b ∷ fieldWords vs
 fieldWords (number n ∷ vs) = decimal n ∷ fieldWords vs

@@ -14,7 +14,7 @@ use Rattle.numbers.specs.Integer.{Bytes}
 use Rattle.numbers.proofs.Value.{bytes-dropped}
 use Rattle.numbers.proofs.Found.{behind}
 use Rattle.numbers.proofs.Over.{one-replaced}
-use Rattle.headers.specs.Header.{Field, Value, Header, rowOf}
+use Rattle.headers.specs.Header.{Field, FieldValue, Header, rowOf}
 use Rattle.headers.specs.Reading.{headerFrom}
 use Rattle.headers.specs.Writing.{byteOf, valueWritable, both, writable, headerBytes, headerTo}
 use Rattle.headers.specs.Bytes.{Carries, asNibbles, asNumber, asChoice, AreFields, none, more, IsHeader, ofRow}
@@ -25,12 +25,12 @@ use Rattle.headers.proofs.Exactly.{read-exactly}
 abbrev pub rewritten : Header → ℕ → ℕ
 rewritten h control = control / 16 * 16 + rowOf (h .kind) .low (h .fields)
 
-same-byte : {f : Field} {v : Value} {b : ℕ} → Carries f v b → byteOf v ≡ b
+same-byte : {f : Field} {v : FieldValue} {b : ℕ} → Carries f v b → byteOf v ≡ b
 same-byte (asNibbles h e) = sym e
 same-byte asNumber = refl
 same-byte (asChoice h) = refl
 
-same-fields : {fs : List Field} {vs : List Value} {bytes : List ℕ} → AreFields fs vs bytes → map byteOf vs ≡ bytes
+same-fields : {fs : List Field} {vs : List FieldValue} {bytes : List ℕ} → AreFields fs vs bytes → map byteOf vs ≡ bytes
 same-fields none = refl
 same-fields (more c are) = ap₂ (λ (b : ℕ) (bytes : List ℕ). b ∷ bytes) (same-byte c) (same-fields are)
 
@@ -40,12 +40,12 @@ unfolding headerBytes
 same-bytes (ofRow {k} {control} {vs} {bytes} w are) = ap₂ (λ (t : ℕ) (l : List ℕ). (t * 16 + rowOf k .low vs) ∷ l) (sym (w .ofType)) (same-fields are)
 
 -- what bytes carry can be written
-value-can : {f : Field} {v : Value} {b : ℕ} → Carries f v b → b < 256 → valueWritable v ≡ can
+value-can : {f : Field} {v : FieldValue} {b : ℕ} → Carries f v b → b < 256 → valueWritable v ≡ can
 value-can (asNibbles {a} {b} h e) l = four-bits-can a b (omega arith) (omega arith)
 value-can asNumber l = refl
 value-can (asChoice {c} h) l = choice-can c h
 
-fields-can : {fs : List Field} {vs : List Value} {bytes : List ℕ} → AreFields fs vs bytes → (rest : List ℕ) → Bytes (bytes ++ rest) → writable vs ≡ can
+fields-can : {fs : List Field} {vs : List FieldValue} {bytes : List ℕ} → AreFields fs vs bytes → (rest : List ℕ) → Bytes (bytes ++ rest) → writable vs ≡ can
 fields-can none rest l = refl
 fields-can (more c are) rest l = ap₂ both (value-can c (l 0)) (fields-can are rest (λ i. l (suc i)))
 

@@ -10,7 +10,7 @@ use Rattle.types.specs.Answer.{accepted}
 use Rattle.types.specs.Writing.{can, left}
 use Rattle.types.proofs.Choices.{either}
 use Rattle.numbers.proofs.Wrote.{wrote, written-here, over-length}
-use Rattle.headers.specs.Header.{Kind, request, simple, complex, segment, Field, twoNibbles, oneNumber, oneChoice, Value, nibbles, number, choice, Header, rowOf, kinds, headerOf}
+use Rattle.headers.specs.Header.{Kind, request, simple, complex, segment, Field, twoNibbles, oneNumber, oneChoice, FieldValue, nibbles, number, choice, Header, rowOf, kinds, headerOf}
 use Rattle.headers.specs.Reading.{headerFrom}
 use Rattle.headers.specs.Writing.{byteOf, valueWritable, writable, headerBytes, headerTo}
 use Rattle.headers.specs.Bytes.{Carries, asNibbles, asNumber, asChoice, AreFields, none, more, Tells, IsHeader, ofRow}
@@ -20,7 +20,7 @@ use Rattle.headers.proofs.Writable.{both-parts, four-bits, choice-small
 use Rattle.headers.proofs.Exactly.{read-exactly}
 
 -- the byte of a row that carries a value
-abbrev pub fieldOf : Value → Field
+abbrev pub fieldOf : FieldValue → Field
 fieldOf (nibbles a b) = twoNibbles
 fieldOf (number n) = oneNumber
 fieldOf (choice c) = oneChoice
@@ -47,7 +47,7 @@ pub lengths : map (λ (k : Kind). suc (length (rowOf k .follow))) kinds ≡ 4 �
 lengths = refl
 
 -- the low nibble that is written has bit 3 clear
-low-short : (k : Kind) (vs : List Value) → rowOf k .low vs < 8
+low-short : (k : Kind) (vs : List FieldValue) → rowOf k .low vs < 8
 low-short request [] = lit< tt
 low-short request (nibbles segments size ∷ vs) = either (λ n. n < 8) (eqb segments 0) (λ e. lit< tt) (λ e. lit< tt)
 low-short request (number n ∷ vs) = lit< tt
@@ -56,12 +56,12 @@ low-short simple vs = lit< tt
 low-short complex vs = lit< tt
 low-short segment vs = lit< tt
 
-value-carried : (v : Value) → valueWritable v ≡ can → Carries (fieldOf v) v (byteOf v)
+value-carried : (v : FieldValue) → valueWritable v ≡ can → Carries (fieldOf v) v (byteOf v)
 value-carried (nibbles a b) e = let n = four-bits a b e in asNibbles {b = b} (omega arith) refl
 value-carried (number n) e = asNumber
 value-carried (choice c) e = asChoice (choice-small c e)
 
-fields-carried : (vs : List Value) → writable vs ≡ can → AreFields (map fieldOf vs) vs (map byteOf vs)
+fields-carried : (vs : List FieldValue) → writable vs ≡ can → AreFields (map fieldOf vs) vs (map byteOf vs)
 fields-carried [] e = none
 fields-carried (v ∷ vs) e = let p = both-parts (valueWritable v) (writable vs) e in more (value-carried v (p .0)) (fields-carried vs (p .1))
 

@@ -1,5 +1,5 @@
 pub mod Writable
-pub mod Built
+pub mod Stored
 pub mod Row
 pub mod Control
 pub mod Exactly

@@ -15,7 +15,7 @@ use Rattle.types.specs.Answer.{Answer, accepted, refused, then}
 use Rattle.types.proofs.Choices.{either}
 use Rattle.numbers.specs.Reading.{byteFrom}
 use Rattle.numbers.proofs.Found.{ByteFound, byte-at, behind}
-use Rattle.headers.specs.Header.{Field, twoNibbles, oneNumber, oneChoice, Value, choice}
+use Rattle.headers.specs.Header.{Field, twoNibbles, oneNumber, oneChoice, FieldValue, choice}
 use Rattle.headers.specs.Reading.{told, fieldsFrom}
 use Rattle.headers.specs.Bytes.{Carries, asNibbles, asNumber, asChoice, AreFields, none, more, BreakOff, here, later, UpToChoiceAbove, at, after}
 
@@ -45,12 +45,12 @@ byte-missing xs place small inside e =
 
 -- a byte that carries a value is told as it, and any other is a service choice above 33
 module _ (b next : ℕ) where
-  pub told-cases : (f : Field) (P : Answer Value → Type 0) → ((v : Value) → Carries f v b → P (accepted v next)) → (f ≡ oneChoice → 33 < b → P (refused 11 (amount b))) → P (told f b next)
+  pub told-cases : (f : Field) (P : Answer FieldValue → Type 0) → ((v : FieldValue) → Carries f v b → P (accepted v next)) → (f ≡ oneChoice → 33 < b → P (refused 11 (amount b))) → P (told f b next)
   told-cases twoNibbles P g h = g _ (asNibbles {a = b / 16} {b = b % 16} {byte = b} (omega arith) (sym (div-add-mod' b 16)))
   told-cases oneNumber P g h = g _ asNumber
   told-cases oneChoice P g h = either P (ltb 33 b) (λ e. h refl (ltb-true 33 b e)) (λ e. g _ (asChoice (ltb-false 33 b e)))
 
-pub told-carried : {f : Field} {v : Value} {b : ℕ} (next : ℕ) → Carries f v b → told f b next ≡ accepted v next
+pub told-carried : {f : Field} {v : FieldValue} {b : ℕ} (next : ℕ) → Carries f v b → told f b next ≡ accepted v next
 told-carried next (asNibbles {a} {b} {byte} h e) =
     let q : byte / 16 ≡ a = omega arith in
     let r : byte % 16 ≡ b = omega arith in
@@ -59,8 +59,8 @@ told-carried next asNumber = refl
 told-carried next (asChoice {c} h) = simp (le-ltb 33 c h)
 
 -- what reading a row's bytes at a place is to answer
-pub data RowAnswers (fs : List Field) (xs : List ℕ) (place : ℕ) : Answer (List Value) → Type 0 where
-  wholeRow : {vs : List Value} {next : ℕ} (bytes rest : List ℕ) → drop place xs ≡ bytes ++ rest → AreFields fs vs bytes → next ≡ place + length bytes → RowAnswers fs xs place (accepted vs next)
+pub data RowAnswers (fs : List Field) (xs : List ℕ) (place : ℕ) : Answer (List FieldValue) → Type 0 where
+  wholeRow : {vs : List FieldValue} {next : ℕ} (bytes rest : List ℕ) → drop place xs ≡ bytes ++ rest → AreFields fs vs bytes → next ≡ place + length bytes → RowAnswers fs xs place (accepted vs next)
   brokenRow : BreakOff fs (drop place xs) → RowAnswers fs xs place (refused 3 (amount (length xs)))
   choiceAboveInRow : {c : ℕ} (bytes rest : List ℕ) → drop place xs ≡ bytes ++ rest → UpToChoiceAbove fs c bytes → RowAnswers fs xs place (refused 11 (amount c))
 
@@ -70,7 +70,7 @@ stepped xs place b rest e = behind xs place (b ∷ []) rest e
 
 module _ (xs : List ℕ) (small : length xs ≤ 65535) where
   -- one byte more in front of a row
-  in-front : {f : Field} {fs : List Field} {v : Value} {b next : ℕ} (place : ℕ) → ByteFound xs place b next → Carries f v b → (a : Answer (List Value)) → RowAnswers fs xs next a
+  in-front : {f : Field} {fs : List Field} {v : FieldValue} {b next : ℕ} (place : ℕ) → ByteFound xs place b next → Carries f v b → (a : Answer (List FieldValue)) → RowAnswers fs xs next a
       → RowAnswers (f ∷ fs) xs place (then a (λ vs end. accepted (v ∷ vs) end))
   in-front {b = b} place g c (accepted vs end) (wholeRow bytes rest e are n) =
       let m : end ≡ place + suc (length bytes) = omega (arith, g .ends) in
@@ -90,7 +90,7 @@ module _ (xs : List ℕ) (small : length xs ≤ 65535) where
       (λ v c. in-front place g c (fieldsFrom fs xs after) (row-sound fs after (omega (arith, g .ends, g .inside))))
       (λ q h. choiceAboveInRow (b ∷ []) (drop after xs) (g .here) (subst (λ (x : Field). UpToChoiceAbove (x ∷ fs) b (b ∷ [])) (sym q) (at h))))
 
-  row-whole : {fs : List Field} {vs : List Value} {bytes : List ℕ} (place : ℕ) (rest : List ℕ) → drop place xs ≡ bytes ++ rest → AreFields fs vs bytes → fieldsFrom fs xs place ≡ accepted vs (place + length bytes)
+  row-whole : {fs : List Field} {vs : List FieldValue} {bytes : List ℕ} (place : ℕ) (rest : List ℕ) → drop place xs ≡ bytes ++ rest → AreFields fs vs bytes → fieldsFrom fs xs place ≡ accepted vs (place + length bytes)
   row-whole place rest e none = ap (accepted []) (sym (add-zero place))
   row-whole place rest e (more {f} {fs} {v} {vs} {b} {bytes} c are) =
       let s : place + 1 + length bytes ≡ place + suc (length bytes) = omega arith in
@@ -108,7 +108,7 @@ module _ (xs : List ℕ) (small : length xs ≤ 65535) where
   row-choice-above place rest e (after {b = b} {bytes = bytes} c u) =
       simp (byte-at xs place b (bytes ++ rest) small e, told-carried (place + 1) c, row-choice-above (place + 1) rest (stepped xs place b (bytes ++ rest) e) u)
 
-  pub row-complete : (fs : List Field) (place : ℕ) → place ≤ length xs → (a : Answer (List Value)) → RowAnswers fs xs place a → fieldsFrom fs xs place ≡ a
+  pub row-complete : (fs : List Field) (place : ℕ) → place ≤ length xs → (a : Answer (List FieldValue)) → RowAnswers fs xs place a → fieldsFrom fs xs place ≡ a
   row-complete fs place l (accepted vs next) (wholeRow bytes rest e are n) = row-whole place rest e are ∙ ap (accepted vs) (sym n)
   row-complete fs place l _ (brokenRow o) = row-broken place l refl o
   row-complete fs place l _ (choiceAboveInRow bytes rest e u) = row-choice-above place rest e u

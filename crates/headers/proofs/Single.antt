@@ -7,7 +7,7 @@ use lib.ListN.{getD}
 use Rattle.types.specs.Refusal.{row}
 use Rattle.types.specs.Answer.{Answer, accepted, refused}
 use Rattle.types.proofs.Single.{told-apart, programRefusal, refusal-back}
-use Rattle.headers.specs.Header.{Kind, request, simple, complex, segment, Value, nibbles, number, choice, Header, headerOf}
+use Rattle.headers.specs.Header.{Kind, request, simple, complex, segment, FieldValue, nibbles, number, choice, Header, headerOf}
 use Rattle.headers.specs.Reading.{paperHeader}
 use Rattle.headers.specs.declared.header.Header as program
 use Rattle.headers.specs.declared.header.Header.the-variants as h
@@ -15,7 +15,7 @@ use Rattle.headers.specs.declared.reading.HeaderRead.{HeaderRead}
 use Rattle.headers.specs.declared.reading.HeaderRead.the-variants as r
 
 -- the numbers of a header, in their order
-abbrev numbers : List Value → List ℕ
+abbrev numbers : List FieldValue → List ℕ
 numbers [] = []
 numbers (nibbles a b ∷ vs) = a ∷ b ∷ numbers vs
 numbers (number n ∷ vs) = n ∷ numbers vs

@@ -7,28 +7,28 @@ use mathlib.Core.List.{List, [], _∷_, _++_}
 use lib.ListN.{length, drop}
 use Rattle.types.specs.Refusal.{Carried, amount}
 use Rattle.types.specs.Answer.{Answer, accepted, refused}
-use Rattle.headers.specs.Header.{Kind, Field, twoNibbles, oneNumber, oneChoice, Value, nibbles, number, choice, Header, header, rowOf}
+use Rattle.headers.specs.Header.{Kind, Field, twoNibbles, oneNumber, oneChoice, FieldValue, nibbles, number, choice, Header, header, rowOf}
 
 -- a byte of a row, and what it carries (the first nibble is below 16 wherever the byte is below 256)
-pub data Carries : Field → Value → ℕ → Type 0 where
+pub data Carries : Field → FieldValue → ℕ → Type 0 where
   asNibbles : {a b byte : ℕ} → b < 16 → byte ≡ a * 16 + b → Carries twoNibbles (nibbles a b) byte
   asNumber : {n : ℕ} → Carries oneNumber (number n) n
   asChoice : {c : ℕ} → c ≤ 33 → Carries oneChoice (choice c) c
 
 -- bytes that are a whole row
-pub data AreFields : List Field → List Value → List ℕ → Type 0 where
+pub data AreFields : List Field → List FieldValue → List ℕ → Type 0 where
   none : AreFields [] [] []
-  more : {f : Field} {fs : List Field} {v : Value} {vs : List Value} {b : ℕ} {bytes : List ℕ} → Carries f v b → AreFields fs vs bytes → AreFields (f ∷ fs) (v ∷ vs) (b ∷ bytes)
+  more : {f : Field} {fs : List Field} {v : FieldValue} {vs : List FieldValue} {b : ℕ} {bytes : List ℕ} → Carries f v b → AreFields fs vs bytes → AreFields (f ∷ fs) (v ∷ vs) (b ∷ bytes)
 
 -- bytes that break off before a row's end
 pub data BreakOff : List Field → List ℕ → Type 0 where
   here : {f : Field} {fs : List Field} → BreakOff (f ∷ fs) []
-  later : {f : Field} {fs : List Field} {v : Value} {b : ℕ} {bytes : List ℕ} → Carries f v b → BreakOff fs bytes → BreakOff (f ∷ fs) (b ∷ bytes)
+  later : {f : Field} {fs : List Field} {v : FieldValue} {b : ℕ} {bytes : List ℕ} → Carries f v b → BreakOff fs bytes → BreakOff (f ∷ fs) (b ∷ bytes)
 
 -- bytes of a row up to a service choice above 33
 pub data UpToChoiceAbove : List Field → ℕ → List ℕ → Type 0 where
   at : {fs : List Field} {c : ℕ} → 33 < c → UpToChoiceAbove (oneChoice ∷ fs) c (c ∷ [])
-  after : {f : Field} {fs : List Field} {v : Value} {b c : ℕ} {bytes : List ℕ} → Carries f v b → UpToChoiceAbove fs c bytes → UpToChoiceAbove (f ∷ fs) c (b ∷ bytes)
+  after : {f : Field} {fs : List Field} {v : FieldValue} {b c : ℕ} {bytes : List ℕ} → Carries f v b → UpToChoiceAbove fs c bytes → UpToChoiceAbove (f ∷ fs) c (b ∷ bytes)
 
 -- a control byte of a kind: its high nibble is the type, and where the kind can come in segments, bit 3 is clear
 pub record Tells (k : Kind) (control : ℕ) : Type 0 where
@@ -37,7 +37,7 @@ pub record Tells (k : Kind) (control : ℕ) : Type 0 where
 
 -- bytes that are one whole header
 pub data IsHeader : Header → List ℕ → Type 0 where
-  ofRow : {k : Kind} {control : ℕ} {vs : List Value} {bytes : List ℕ} → Tells k control → AreFields (rowOf k .follow) vs bytes → IsHeader (header k vs) (control ∷ bytes)
+  ofRow : {k : Kind} {control : ℕ} {vs : List FieldValue} {bytes : List ℕ} → Tells k control → AreFields (rowOf k .follow) vs bytes → IsHeader (header k vs) (control ∷ bytes)
 
 -- bytes that break off before a header's end
 pub data Broken : List ℕ → Type 0 where

@@ -22,40 +22,40 @@ pub data Field : Type 0 where
   oneChoice : Field
 
 -- what such a byte carries
-pub data Value : Type 0 where
-  nibbles : ℕ → ℕ → Value
-  number : ℕ → Value
-  choice : ℕ → Value
+pub data FieldValue : Type 0 where
+  nibbles : ℕ → ℕ → FieldValue
+  number : ℕ → FieldValue
+  choice : ℕ → FieldValue
 
 -- a header: its kind, and what the bytes behind its control byte carry, in their order
 pub record Header : Type 0 where
   pub kind : Kind
-  pub fields : List Value
+  pub fields : List FieldValue
 
-abbrev pub header : Kind → List Value → Header
+abbrev pub header : Kind → List FieldValue → Header
 header k vs = record { kind = k; fields = vs }
 
 -- a row: the control byte's high nibble, whether its bit 3 says that the PDU is a segment, its low nibble as it is written, and the bytes that follow
 pub record Row : Type 0 where
   pub pduType : ℕ
   pub segmentable : Bool
-  pub low : List Value → ℕ
+  pub low : List FieldValue → ℕ
   pub follow : List Field
 
-abbrev pub row : ℕ → Bool → (List Value → ℕ) → List Field → Row
+abbrev pub row : ℕ → Bool → (List FieldValue → ℕ) → List Field → Row
 row t s l f = record { pduType = t; segmentable = s; low = l; follow = f }
 
 -- a request says by 2 that it accepts an answer in segments: not if its segments nibble is 0
 abbrev pub accepting : ℕ → ℕ
 accepting segments = if (eqb segments 0) 0 2
 
-abbrev pub requestLow : List Value → ℕ
+abbrev pub requestLow : List FieldValue → ℕ
 requestLow [] = 0
 requestLow (nibbles segments size ∷ vs) = accepting segments
 requestLow (number n ∷ vs) = 0
 requestLow (choice c ∷ vs) = 0
 
-abbrev pub noLow : List Value → ℕ
+abbrev pub noLow : List FieldValue → ℕ
 noLow vs = 0
 
 -- the table (20.1.2, 20.1.4 to 20.1.6): behind its control byte a request has max-segments-accepted and max-APDU-length-accepted in one byte, then invokeID and service-choice;

@@ -8,20 +8,20 @@ use Rattle.types.specs.Choice.{if}
 use Rattle.types.specs.Refusal.{amount}
 use Rattle.types.specs.Answer.{Answer, accepted, refused, refusal, then}
 use Rattle.numbers.specs.Reading.{byteFrom}
-use Rattle.headers.specs.Header.{Kind, Field, twoNibbles, oneNumber, oneChoice, Value, nibbles, number, choice, Header, header, Row, rowOf, kinds, headerOf}
+use Rattle.headers.specs.Header.{Kind, Field, twoNibbles, oneNumber, oneChoice, FieldValue, nibbles, number, choice, Header, header, Row, rowOf, kinds, headerOf}
 use Rattle.headers.specs.declared.reading.HeaderRead.{HeaderRead}
 use Rattle.headers.specs.declared.reading.HeaderRead.the-variants as r
 use Rattle.headers.specs.declared.reading.PairRead.{PairRead}
 use Rattle.headers.specs.declared.reading.PairRead.the-variants as p
 
 -- what a byte carries; a service choice goes to 33
-abbrev pub told : Field → ℕ → ℕ → Answer Value
+abbrev pub told : Field → ℕ → ℕ → Answer FieldValue
 told twoNibbles b next = accepted (nibbles (b / 16) (b % 16)) next
 told oneNumber b next = accepted (number b) next
 told oneChoice b next = if (ltb 33 b) (refused 11 (amount b)) (accepted (choice b) next)
 
 -- what the bytes of a row carry, in their order
-abbrev pub fieldsFrom : List Field → List ℕ → ℕ → Answer (List Value)
+abbrev pub fieldsFrom : List Field → List ℕ → ℕ → Answer (List FieldValue)
 fieldsFrom [] xs place = accepted [] place
 fieldsFrom (f ∷ fs) xs place =
     then (byteFrom xs place) (λ b after.
@@ -53,6 +53,6 @@ abbrev pub paperHeader : HeaderRead → Answer Header
 paperHeader (r.Read h next) = accepted (headerOf h) next
 paperHeader (r.Refused x) = refusal x
 
-abbrev pub paperPair : PairRead → Answer (List Value)
+abbrev pub paperPair : PairRead → Answer (List FieldValue)
 paperPair (p.Pair id c next) = accepted (number id ∷ choice c ∷ []) next
 paperPair (p.Refused x) = refusal x

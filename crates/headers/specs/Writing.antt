@@ -5,11 +5,11 @@ use mathlib.Core.List.{List, [], _∷_, map}
 use lib.Dec.{ltb}
 use Rattle.types.specs.Choice.{if}
 use Rattle.types.specs.Refusal.{amount}
-use Rattle.types.specs.Writing.{Left, Writable, can, cannot, writing}
-use Rattle.headers.specs.Header.{Value, nibbles, number, choice, Header, rowOf}
+use Rattle.types.specs.Writing.{Left, Writable, can, cannot, unwritable, writing}
+use Rattle.headers.specs.Header.{FieldValue, nibbles, number, choice, Header, rowOf}
 
 -- the byte that carries a value
-abbrev pub byteOf : Value → ℕ
+abbrev pub byteOf : FieldValue → ℕ
 byteOf (nibbles a b) = a * 16 + b
 byteOf (number n) = n
 byteOf (choice c) = c
@@ -22,8 +22,8 @@ headerBytes h = (rowOf (h .kind) .pduType * 16 + rowOf (h .kind) .low (h .fields
 abbrev pub choiceWritable : ℕ → Writable
 choiceWritable c = if (ltb 33 c) (cannot 11 (amount c)) can
 
-abbrev pub valueWritable : Value → Writable
-valueWritable (nibbles a b) = if (ltb 15 a) (cannot 12 (amount 0)) (if (ltb 15 b) (cannot 12 (amount 0)) can)
+abbrev pub valueWritable : FieldValue → Writable
+valueWritable (nibbles a b) = if (ltb 15 a) unwritable (if (ltb 15 b) unwritable can)
 valueWritable (number n) = can
 valueWritable (choice c) = choiceWritable c
 
@@ -32,7 +32,7 @@ both can w = w
 both (cannot n c) w = cannot n c
 
 -- the first value that cannot be written says why not: nibbles stand before a choice, so 12 comes before 11
-abbrev pub writable : List Value → Writable
+abbrev pub writable : List FieldValue → Writable
 writable [] = can
 writable (v ∷ vs) = both (valueWritable v) (writable vs)
 

@@ -20,7 +20,7 @@ use Rattle.numbers.proofs.Found.{behind, unsigned-at, signed-at}
 use Rattle.numbers.proofs.Wrote.{wrote, written-here, over-length}
 use Rattle.tags.specs.Reading.{tagFrom}
 use Rattle.tags.specs.Header.{Tells, inline, one, two, four, none, IsTag, ofApplication, ofLongContext, ofContext, ofOpening, ofClosing}
-use Rattle.tags.specs.Writing.{lowBits, valueBytes, contextBytes, numberBytes, headerBytes, writableTag, tagTo}
+use Rattle.tags.specs.Writing.{lowBits, tagValueBytes, contextBytes, numberBytes, tagBytes, writableTag, tagTo}
 use Rattle.tags.specs.Item.{itemBytes, itemTo}
 use Rattle.tags.proofs.Exactly.{tag-read}
 use Rattle.tags.proofs.Range.{InRange}
@@ -37,7 +37,7 @@ low-lt : (v : ℕ) → lowBits v < 6
 low-lt v = split v 5 (λ h. simp (lt-ltb v 5 h) (omega arith)) (λ h. simp (le-ltb v 5 h) (omega arith))
 
 -- the low bits and the bytes that are written for a value tell it
-value-told : (v : ℕ) → v < 2 ^ 32 → Tells (lowBits v) v (valueBytes v)
+value-told : (v : ℕ) → v < 2 ^ 32 → Tells (lowBits v) v (tagValueBytes v)
 value-told v k =
     split v 5 (λ h. simp (lt-ltb v 5 h) (inline h)) (λ h.
     split v 254 (λ h₂. simp (le-ltb v 5 h, lt-ltb v 254 h₂) (one {b = v} (omega arith) (omega arith))) (λ h₂.
@@ -64,18 +64,18 @@ module _ (n v : ℕ) where
   application-is k =
       let b = application-bits n (lowBits v) (omega (arith, low-lt v)) in
       subst (λ (x : ℕ). IsTag (tag (application x) v) (numberBytes (application n) v)) (b .1)
-      (ofApplication (b .0) (subst (λ (x : ℕ). Tells x v (valueBytes v)) (sym (b .2)) (value-told v k)))
+      (ofApplication (b .0) (subst (λ (x : ℕ). Tells x v (tagValueBytes v)) (sym (b .2)) (value-told v k)))
 
-  context-field : n < 15 → v < 2 ^ 32 → IsTag (tag (context n) v) ((n * 16 + 8 + lowBits v) ∷ valueBytes v)
+  context-field : n < 15 → v < 2 ^ 32 → IsTag (tag (context n) v) ((n * 16 + 8 + lowBits v) ∷ tagValueBytes v)
   context-field h k =
       let b = context-bits n (lowBits v) (omega (arith, low-lt v)) in
-      subst (λ (x : ℕ). IsTag (tag (context x) v) ((n * 16 + 8 + lowBits v) ∷ valueBytes v)) (b .1)
-      (ofContext (b .0) (not-fifteen n _ (b .1) h) (subst (λ (x : ℕ). x < 6) (sym (b .2)) (low-lt v)) (subst (λ (x : ℕ). Tells x v (valueBytes v)) (sym (b .2)) (value-told v k)))
+      subst (λ (x : ℕ). IsTag (tag (context x) v) ((n * 16 + 8 + lowBits v) ∷ tagValueBytes v)) (b .1)
+      (ofContext (b .0) (not-fifteen n _ (b .1) h) (subst (λ (x : ℕ). x < 6) (sym (b .2)) (low-lt v)) (subst (λ (x : ℕ). Tells x v (tagValueBytes v)) (sym (b .2)) (value-told v k)))
 
-  context-second : v < 2 ^ 32 → IsTag (tag (context n) v) ((248 + lowBits v) ∷ n ∷ valueBytes v)
+  context-second : v < 2 ^ 32 → IsTag (tag (context n) v) ((248 + lowBits v) ∷ n ∷ tagValueBytes v)
   context-second k =
       let b = long-bits (lowBits v) (omega (arith, low-lt v)) in
-      ofLongContext (b .0) (b .1) (subst (λ (x : ℕ). Tells x v (valueBytes v)) (sym (b .2)) (value-told v k))
+      ofLongContext (b .0) (b .1) (subst (λ (x : ℕ). Tells x v (tagValueBytes v)) (sym (b .2)) (value-told v k))
 
   context-is : v < 2 ^ 32 → IsTag (tag (context n) v) (numberBytes (context n) v)
   context-is k = split n 15 (λ h. simp (lt-ltb n 15 h) (context-field h k)) (λ h. simp (le-ltb n 15 h) (context-second k))
@@ -90,8 +90,8 @@ closing-is n h =
     let b = context-bits n 7 (omega arith) in
     simp (lt-ltb n 15 h) (subst (λ (x : ℕ). IsTag (tag (closing x) 0) ((n * 16 + 8 + 7) ∷ [])) (b .1) (ofClosing (b .0) (not-fifteen n _ (b .1) h) (b .2)))
 
-pub header-is-tag : (n : Number) (v : ℕ) → InRange n v → IsTag (tag n v) (headerBytes (tag n v))
-unfolding headerBytes
+pub header-is-tag : (n : Number) (v : ℕ) → InRange n v → IsTag (tag n v) (tagBytes (tag n v))
+unfolding tagBytes
 header-is-tag (application n) v r = application-is n v (r .1)
 header-is-tag (context n) v r = context-is n v (r .1)
 header-is-tag (opening n) v r = subst (λ (x : ℕ). IsTag (tag (opening n) x) (numberBytes (opening n) x)) (sym (r .1)) (opening-is n (r .0))
@@ -101,7 +101,7 @@ header-is-tag (closing n) v r = subst (λ (x : ℕ). IsTag (tag (closing n) x) (
 pub round-trip : (n : Number) (v : ℕ) → InRange n v → (xs : List ℕ) (place next : ℕ) (ys : List ℕ) → tagTo (tag n v) xs place ≡ left (accepted tt next) ys → tagFrom ys place ≡ accepted (tag n v) next
 unfolding tagTo
 round-trip n v r xs place next ys e =
-    let h : List ℕ = headerBytes (tag n v) in
+    let h : List ℕ = tagBytes (tag n v) in
     let w = wrote 0 (writableTag (tag n v)) h xs place next ys e in
     let s : length (over xs place h) ≤ 65535 = omega (arith, over-length h xs place (w .room), w .small) in
     rw (w .buffer, w .ends) (tag-read (over xs place h) s place (tag n v) h _ (written-here h xs place (w .room)) (header-is-tag n v r))
@@ -119,7 +119,7 @@ pub item-found : (n : Number) (content : List ℕ) → InRange n (length content
 unfolding itemTo
 item-found n content r xs place next ys e =
     let t : Tag = tag n (length content) in
-    let h : List ℕ = headerBytes t in
+    let h : List ℕ = tagBytes t in
     let w = wrote 0 (writableTag t) (itemBytes n content) xs place next ys e in
     let l : length (itemBytes n content) ≡ length h + length content = length-append h content in
     let rest : List ℕ = drop (place + length (itemBytes n content)) xs in

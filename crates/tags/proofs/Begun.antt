@@ -12,21 +12,21 @@ use Rattle.types.specs.Tag.{Tag}
 use Rattle.types.specs.Refusal.{Carried}
 use Rattle.types.specs.Answer.{Answer, accepted, refused}
 use Rattle.types.specs.Writing.{Left, left, over, Writable, can, settled, writeAnswer, writing}
-use Rattle.tags.specs.Writing.{headerBytes, hasNoValue, writableTag, begun, tagTo, tagBefore}
+use Rattle.tags.specs.Writing.{tagBytes, tagValueAllowed, writableTag, begun, tagTo, tagBefore}
 use Rattle.tags.specs.Held.{oneBefore}
 use Rattle.numbers.proofs.Inside.{Room, write-room}
 use Rattle.numbers.proofs.Over.{one-replaced}
 use Rattle.tags.proofs.Held.{header-short}
 
 -- where all tests pass, writing the header's bytes is what is asked
-pub begun-written : (t : Tag) (content : ℕ) (bytes xs : List ℕ) (place : ℕ) → bytes ≡ headerBytes t → length xs ≤ 65535 → place ≤ length xs → hasNoValue t ≡ true → place + (length (headerBytes t) + content) ≤ length xs
+pub begun-written : (t : Tag) (content : ℕ) (bytes xs : List ℕ) (place : ℕ) → bytes ≡ tagBytes t → length xs ≤ 65535 → place ≤ length xs → tagValueAllowed t ≡ true → place + (length (tagBytes t) + content) ≤ length xs
     → writing (length bytes) can bytes xs place ≡ tagBefore t content xs place
 unfolding writing writeAnswer tagBefore
 begun-written t content bytes xs place e small inside value room =
     rw e
-    (let s : length (headerBytes t) ≤ 65535 = omega (arith, header-short t) in
-    let r : place + length (headerBytes t) ≤ length xs = omega arith in
-    simp (le-ltb 65535 (length xs) small, le-ltb 65535 (length (headerBytes t)) s, le-ltb (length xs) place inside, value, le-ltb (length xs) (place + length (headerBytes t)) r, le-ltb (length xs) (place + (length (headerBytes t) + content)) room))
+    (let s : length (tagBytes t) ≤ 65535 = omega (arith, header-short t) in
+    let r : place + length (tagBytes t) ≤ length xs = omega arith in
+    simp (le-ltb 65535 (length xs) small, le-ltb 65535 (length (tagBytes t)) s, le-ltb (length xs) place inside, value, le-ltb (length xs) (place + length (tagBytes t)) r, le-ltb (length xs) (place + (length (tagBytes t) + content)) room))
 
 -- a write of bytes, where none are to follow
 alone : (bytes xs : List ℕ) (place : ℕ) (a : Answer (Unit {0})) → Room (length bytes) xs place a → begun bytes xs place a ≡ settled bytes xs place a
@@ -36,11 +36,11 @@ alone bytes xs place (refused n c) r = refl
 pub begun-alone : (t : Tag) (xs : List ℕ) (place : ℕ) → tagBefore t 0 xs place ≡ tagTo t xs place
 unfolding tagBefore tagTo writing
 begun-alone t xs place =
-    rw (add-zero (length (headerBytes t)))
-    (alone (headerBytes t) xs place (writeAnswer 0 (writableTag t) (length (headerBytes t)) xs place) (write-room 0 (writableTag t) (length (headerBytes t)) xs place))
+    rw (add-zero (length (tagBytes t)))
+    (alone (tagBytes t) xs place (writeAnswer 0 (writableTag t) (length (tagBytes t)) xs place) (write-room 0 (writableTag t) (length (tagBytes t)) xs place))
 
 -- a tag of one byte, which can be written
-pub short-before : (t : Tag) (b content : ℕ) (xs : List ℕ) (place : ℕ) → (headerBytes t ≡ b ∷ []) × (hasNoValue t ≡ true) → oneBefore b content xs place ≡ tagBefore t content xs place
+pub short-before : (t : Tag) (b content : ℕ) (xs : List ℕ) (place : ℕ) → (tagBytes t ≡ b ∷ []) × (tagValueAllowed t ≡ true) → oneBefore b content xs place ≡ tagBefore t content xs place
 unfolding tagBefore oneBefore
 short-before t b content xs place (e, f) = rw (e, f) refl
 

@@ -16,7 +16,7 @@ use Rattle.types.proofs.Choices.{either, read-on}
 use Rattle.numbers.specs.Integer.{unsignedValue}
 use Rattle.numbers.specs.Reading.{byteFrom, fixedFrom}
 use Rattle.numbers.proofs.Found.{ByteFound, byte-found, byte-at, FixedFound, fixed-found, fixed-at, behind}
-use Rattle.tags.specs.Reading.{numberFrom, valueFrom, tagAfter, tagFrom}
+use Rattle.tags.specs.Reading.{numberFrom, tagValueFrom, tagAfter, tagFrom}
 use Rattle.tags.specs.Header.{Tells, inline, one, two, four, none, IsTag, ofApplication, ofLongContext, ofContext, ofOpening, ofClosing}
 
 -- a value that was read: the bytes that stand there tell it
@@ -57,8 +57,8 @@ long-found xs place =
     (λ h. record { bytes = b ∷ []; tells = one (eqb-false b 254 g) (eqb-false b 255 h); here = f .here; ends = f .ends; inside = omega (arith, f .ends, f .inside) })))
     (λ n c e. tt)
 
-value-found : (low : ℕ) (xs : List ℕ) (place : ℕ) → place ≤ length xs → ValueOr low xs place (valueFrom low xs place)
-unfolding valueFrom
+value-found : (low : ℕ) (xs : List ℕ) (place : ℕ) → place ≤ length xs → ValueOr low xs place (tagValueFrom low xs place)
+unfolding tagValueFrom
 value-found low xs place l =
     either (ValueOr low xs place) (ltb low 5)
     (λ e. record { bytes = []; tells = inline (ltb-true low 5 e); here = refl; ends = omega arith; inside = l })
@@ -162,7 +162,7 @@ module _ (first : ℕ) (xs : List ℕ) (place p : ℕ) (f : ByteFound xs place f
       read-on (TagOr xs place) (numberFrom first xs p)
       (λ n after e.
       let m : NumberFound first xs p n after = subst (NumberOr first xs p) e (number-found first xs p) in
-      read-on (TagOr xs place) (valueFrom (first % 8) xs after)
+      read-on (TagOr xs place) (tagValueFrom (first % 8) xs after)
       (λ v next g. joined n after v next m (subst (ValueOr (first % 8) xs after) g (value-found (first % 8) xs after (number-within m (omega (arith, f .inside, f .ends)) .1))))
       (λ k c g. tt))
       (λ k c e. tt)
@@ -176,8 +176,8 @@ tag-found xs place t next e =
 
 module _ (xs : List ℕ) (small : length xs ≤ 65535) where
   -- a value's bytes are read as the value
-  value-read : {low v : ℕ} {bytes : List ℕ} → Tells low v bytes → (place : ℕ) (rest : List ℕ) → place ≤ length xs → drop place xs ≡ bytes ++ rest → valueFrom low xs place ≡ accepted v (place + length bytes)
-  unfolding valueFrom
+  value-read : {low v : ℕ} {bytes : List ℕ} → Tells low v bytes → (place : ℕ) (rest : List ℕ) → place ≤ length xs → drop place xs ≡ bytes ++ rest → tagValueFrom low xs place ≡ accepted v (place + length bytes)
+  unfolding tagValueFrom
   value-read (inline {low} h) place rest l e = simp (lt-ltb low 5 h, add-zero)
   value-read (one {b} h k) place rest l e = simp (byte-at xs place b rest small e, ne-eqb b 254 h, ne-eqb b 255 k)
   value-read (two bytes h) place rest l e =

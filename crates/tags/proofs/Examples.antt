@@ -7,7 +7,7 @@ use lib.ListN.{length}
 use lib.IntN.{ℤ, pos, negsuc}
 use Rattle.types.specs.Tag.{application, context, tag}
 use Rattle.numbers.specs.Integer.{unsignedLength, signedLength, unsignedBytes, signedBytes}
-use Rattle.tags.specs.Writing.{headerBytes}
+use Rattle.tags.specs.Writing.{tagBytes}
 use Rattle.tags.specs.Item.{itemBytes}
 
 -- unsigned 0 and 256; signed 127, 128, -128 and -129; octet headers of 253, 300, 65,535 and 65,536; context 14 and 15 with value 4
@@ -16,8 +16,8 @@ written =
     itemBytes (application 2) (unsignedBytes 0) ∷ itemBytes (application 2) (unsignedBytes 256)
     ∷ itemBytes (application 3) (signedBytes (pos 127)) ∷ itemBytes (application 3) (signedBytes (pos 128))
     ∷ itemBytes (application 3) (signedBytes (negsuc 127)) ∷ itemBytes (application 3) (signedBytes (negsuc 128))
-    ∷ headerBytes (tag (application 6) 253) ∷ headerBytes (tag (application 6) 300) ∷ headerBytes (tag (application 6) 65535) ∷ headerBytes (tag (application 6) 65536)
-    ∷ headerBytes (tag (context 14) 4) ∷ headerBytes (tag (context 15) 4) ∷ []
+    ∷ tagBytes (tag (application 6) 253) ∷ tagBytes (tag (application 6) 300) ∷ tagBytes (tag (application 6) 65535) ∷ tagBytes (tag (application 6) 65536)
+    ∷ tagBytes (tag (context 14) 4) ∷ tagBytes (tag (context 15) 4) ∷ []
 
 abbrev pub expected : List (List ℕ)
 expected =
@@ -28,5 +28,5 @@ expected =
     ∷ (0xEC ∷ []) ∷ (0xFC ∷ 0x0F ∷ []) ∷ []
 
 pub starred : written ≡ expected
-unfolding headerBytes unsignedBytes unsignedLength signedBytes signedLength
+unfolding tagBytes unsignedBytes unsignedLength signedBytes signedLength
 starred = refl

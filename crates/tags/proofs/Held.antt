@@ -11,7 +11,7 @@ use lib.Dec.{ltb, lit≤}
 use Rattle.types.specs.Choice.{if}
 use Rattle.numbers.specs.Integer.{lowBytes}
 use Rattle.types.specs.Tag.{Number, application, context, opening, closing, Tag}
-use Rattle.tags.specs.Writing.{lowBits, valueBytes, contextBytes, numberBytes, headerBytes}
+use Rattle.tags.specs.Writing.{lowBits, tagValueBytes, contextBytes, numberBytes, tagBytes}
 use Rattle.tags.specs.Held.{pad, holding, pushed, pushes}
 use Rattle.tags.specs.declared.header.Header.{Header}
 
@@ -44,7 +44,7 @@ pushes-holding (b ∷ bs) l h =
     ∙ ap holding (append-assoc l (b ∷ []) bs)
 
 -- at most five bytes follow for a value
-pub value-short : (v : ℕ) → length (valueBytes v) ≤ 5
+pub value-short : (v : ℕ) → length (tagValueBytes v) ≤ 5
 value-short v = go (ltb v 5) (ltb v 254) (ltb v 65536)
   where
     go : (a b c : Bool) → length (if a [] (if b (v ∷ []) (if c (254 ∷ lowBytes 2 v) (255 ∷ lowBytes 4 v)))) ≤ 5
@@ -62,13 +62,13 @@ context-short n low = go (ltb n 15)
     go false = lit≤ tt
 
 -- a header has at most seven bytes
-pub header-short : (t : Tag) → length (headerBytes t) ≤ 7
-unfolding headerBytes
+pub header-short : (t : Tag) → length (tagBytes t) ≤ 7
+unfolding tagBytes
 header-short t = go (t .number)
   where
     go : (n : Number) → length (numberBytes n (t .value)) ≤ 7
     go (application n) = omega (arith, value-short (t .value))
-    go (context n) = omega (arith, value-short (t .value), context-short n (lowBits (t .value)), length-append (contextBytes n (lowBits (t .value))) (valueBytes (t .value)))
+    go (context n) = omega (arith, value-short (t .value), context-short n (lowBits (t .value)), length-append (contextBytes n (lowBits (t .value))) (tagValueBytes (t .value)))
     go (opening n) = omega (arith, context-short n 6)
     go (closing n) = omega (arith, context-short n 7)
 

@@ -16,7 +16,7 @@ use Rattle.types.specs.declared.written.Written.{Written}
 use Rattle.types.specs.declared.written.Written.the-variants as w
 use Rattle.numbers.proofs.Inside.{Room, write-room}
 use Rattle.numbers.proofs.Wrote.{over-length, write-fits}
-use Rattle.tags.specs.Writing.{headerBytes, writableTag, begun, tagBefore}
+use Rattle.tags.specs.Writing.{tagBytes, writableTag, begun, tagBefore}
 use Rattle.tags.specs.Item.{itemBytes, itemTo}
 
 -- content written behind the first bytes of an item, where those were written
@@ -65,7 +65,7 @@ pub begun-room : (t : Tag) (content : ℕ) (xs : List ℕ) (place : ℕ) (r : Wr
 unfolding tagBefore
 begun-room t content xs place r ys next e to =
     subst (λ (l : Left). BegunRoom content (l .buffer) (l .answer)) (sym e ∙ ap (λ (x : Written). left (paperWritten x) ys) to)
-    (room-left (headerBytes t) content xs place (writeAnswer 0 (writableTag t) (length (headerBytes t) + content) xs place) (write-room 0 (writableTag t) (length (headerBytes t) + content) xs place))
+    (room-left (tagBytes t) content xs place (writeAnswer 0 (writableTag t) (length (tagBytes t) + content) xs place) (write-room 0 (writableTag t) (length (tagBytes t) + content) xs place))
 
 -- the rest of a buffer from a place on, lent and put back
 lent-rest : (p : ℕ) (ys : List ℕ) → take (length ys - p) (drop p ys) ≡ drop p ys
@@ -85,9 +85,9 @@ pub item-by-parts : (n : Number) (content xs : List ℕ) (place : ℕ)
 unfolding itemTo writing tagBefore
 item-by-parts n content xs place =
     let t : Tag = tag n (length content) in
-    rw (length-append (headerBytes t) content)
-    (by-parts (headerBytes t) content xs place (writeAnswer 0 (writableTag t) (length (headerBytes t) + length content) xs place)
-    (write-room 0 (writableTag t) (length (headerBytes t) + length content) xs place))
+    rw (length-append (tagBytes t) content)
+    (by-parts (tagBytes t) content xs place (writeAnswer 0 (writableTag t) (length (tagBytes t) + length content) xs place)
+    (write-room 0 (writableTag t) (length (tagBytes t) + length content) xs place))
 
 -- content as long as its header says, of which the header's write has answered r and left ys
 module _ (n : Number) (content xs : List ℕ) (place len : ℕ) (r : Written) (ys : List ℕ) (sized : length content ≡ len) (headed : left (paperWritten r) ys ≡ tagBefore (tag n len) len xs place) where

@@ -17,7 +17,7 @@ use Rattle.numbers.specs.Integer.{unsignedValue, Bytes}
 use Rattle.numbers.specs.Reading.{byteFrom, partAt, bytesIn, sliceFrom, fixedFrom}
 use Rattle.numbers.proofs.Value.{value-lt}
 use Rattle.numbers.proofs.Found.{byte-found}
-use Rattle.tags.specs.Reading.{numberFrom, valueFrom, tagAfter, tagFrom}
+use Rattle.tags.specs.Reading.{numberFrom, tagValueFrom, tagAfter, tagFrom}
 use Rattle.tags.specs.Header.{Tells, inline, one, two, four, none, IsTag, ofApplication, ofLongContext, ofContext, ofOpening, ofClosing}
 use Rattle.tags.proofs.Exactly.{number-ends, tag-read}
 
@@ -80,8 +80,8 @@ module _ (xs : List ℕ) (small : length xs ≤ 65535) where
   or-further l (accepted a next) h = tt
   or-further l (refused n c) h = further xs l h
 
-  value-or : (low place : ℕ) → place ≤ length xs → OrRunsOut xs (place + 5) (valueFrom low xs place)
-  unfolding valueFrom
+  value-or : (low place : ℕ) → place ≤ length xs → OrRunsOut xs (place + 5) (tagValueFrom low xs place)
+  unfolding tagValueFrom
   value-or low place l =
       either (OrRunsOut xs (place + 5)) (ltb low 5) (λ e. tt) (λ e.
       either (OrRunsOut xs (place + 5)) (eqb low 5)
@@ -109,7 +109,7 @@ module _ (xs : List ℕ) (small : length xs ≤ 65535) where
       read-on (OrRunsOut xs (place + 6)) (numberFrom first xs place)
       (λ n after e.
       let m = number-ends first xs place n after e l in
-      read-on (OrRunsOut xs (place + 6)) (valueFrom (first % 8) xs after) (λ v next f. tt)
+      read-on (OrRunsOut xs (place + 6)) (tagValueFrom (first % 8) xs after) (λ v next f. tt)
       (λ k c f. further xs (omega arith) (subst (OrRunsOut xs (after + 5)) f (value-or (first % 8) after (m .1)))))
       (λ k c e. further xs (omega arith) (subst (OrRunsOut xs place) e (number-or first place l)))
 

@@ -7,7 +7,7 @@ use mathlib.Core.List.{List, [], _∷_}
 use lib.ListN.{length, getD, set}
 use Rattle.types.specs.Tag.{Tag}
 use Rattle.types.specs.Writing.{Left, can, writeAnswer}
-use Rattle.tags.specs.Writing.{headerBytes, hasNoValue, begun}
+use Rattle.tags.specs.Writing.{tagBytes, tagValueAllowed, begun}
 use Rattle.tags.specs.declared.header.Header.{Header}
 
 -- bytes, filled up with zeros to n
@@ -35,7 +35,7 @@ OneOf h bytes = h .len ≡ 1 → bytes ≡ getD (h .bytes) 0 0 ∷ []
 
 -- and the tag's, which can be written
 abbrev pub OneByte : Header → Tag → Type 0
-OneByte h t = h .len ≡ 1 → (headerBytes t ≡ getD (h .bytes) 0 0 ∷ []) × (hasNoValue t ≡ true)
+OneByte h t = h .len ≡ 1 → (tagBytes t ≡ getD (h .bytes) 0 0 ∷ []) × (tagValueAllowed t ≡ true)
 
 -- what writing one byte answers and leaves, where so many bytes are to follow it
 unfoldable pub oneBefore : ℕ → ℕ → List ℕ → ℕ → Left

@@ -6,13 +6,13 @@ use mathlib.Core.List.{List, _++_}
 use lib.ListN.{length}
 use Rattle.types.specs.Tag.{Number, application, context, tag}
 use Rattle.types.specs.Writing.{Left, writing}
-use Rattle.tags.specs.Writing.{headerBytes, writableTag}
+use Rattle.tags.specs.Writing.{tagBytes, writableTag}
 use Rattle.tags.specs.declared.integer.ContextTag.{ContextTag}
 use Rattle.tags.specs.declared.integer.ContextTag.the-variants as c
 
 -- a tag whose value is its content's length, and the content
 abbrev pub itemBytes : Number → List ℕ → List ℕ
-itemBytes n content = headerBytes (tag n (length content)) ++ content
+itemBytes n content = tagBytes (tag n (length content)) ++ content
 
 -- what writing it at a place of a buffer answers and leaves
 unfoldable pub itemTo : Number → List ℕ → List ℕ → ℕ → Left

@@ -24,8 +24,8 @@ numberFrom first xs place =
     (accepted (context (first / 16)) place))))
 
 -- the value that the low bits tell: 0 to 4 are the value; 5 says that a byte follows, where 254 means two more bytes, 255 four more, and any other is the value; 6 and 7 give 0
-unfoldable pub valueFrom : ℕ → List ℕ → ℕ → Answer ℕ
-valueFrom low xs place =
+unfoldable pub tagValueFrom : ℕ → List ℕ → ℕ → Answer ℕ
+tagValueFrom low xs place =
     if (ltb low 5) (accepted low place)
     (if (eqb low 5)
     (then (byteFrom xs place) (λ b next.
@@ -38,7 +38,7 @@ valueFrom low xs place =
 unfoldable pub tagAfter : ℕ → List ℕ → ℕ → Answer Tag
 tagAfter first xs place =
     then (numberFrom first xs place) (λ n after.
-    then (valueFrom (first % 8) xs after) (λ v next.
+    then (tagValueFrom (first % 8) xs after) (λ v next.
     accepted (tag n v) next))
 
 -- the tag at a place

@@ -7,9 +7,8 @@ use lib.ListN.{length}
 use lib.Dec.{ltb, eqb}
 use Rattle.types.specs.Choice.{if}
 use Rattle.types.specs.Tag.{Number, application, context, opening, closing, Tag}
-use Rattle.types.specs.Refusal.{amount}
 use Rattle.types.specs.Answer.{Answer, accepted, refused}
-use Rattle.types.specs.Writing.{Left, left, over, Writable, can, cannot, writeAnswer, writing}
+use Rattle.types.specs.Writing.{Left, left, over, Writable, can, unwritable, writeAnswer, writing}
 use Rattle.numbers.specs.Integer.{lowBytes}
 
 -- the low bits that tell a value
@@ -17,8 +16,8 @@ abbrev pub lowBits : ℕ → ℕ
 lowBits v = if (ltb v 5) v 5
 
 -- the bytes that follow for a value: none to 4, one to 253, the marker 254 and two to 65,535, and 255 and four above that
-abbrev pub valueBytes : ℕ → List ℕ
-valueBytes v =
+abbrev pub tagValueBytes : ℕ → List ℕ
+tagValueBytes v =
     if (ltb v 5) []
     (if (ltb v 254) (v ∷ [])
     (if (ltb v 65536) (254 ∷ lowBytes 2 v)
@@ -30,32 +29,32 @@ contextBytes n low = if (ltb n 15) ((n * 16 + 8 + low) ∷ []) ((248 + low) ∷ 
 
 -- a tag's bytes, by its class and number
 abbrev pub numberBytes : Number → ℕ → List ℕ
-numberBytes (application n) v = (n * 16 + lowBits v) ∷ valueBytes v
-numberBytes (context n) v = contextBytes n (lowBits v) ++ valueBytes v
+numberBytes (application n) v = (n * 16 + lowBits v) ∷ tagValueBytes v
+numberBytes (context n) v = contextBytes n (lowBits v) ++ tagValueBytes v
 numberBytes (opening n) v = contextBytes n 6
 numberBytes (closing n) v = contextBytes n 7
 
 -- the bytes of a tag
-unfoldable pub headerBytes : Tag → List ℕ
-headerBytes t = numberBytes (t .number) (t .value)
+unfoldable pub tagBytes : Tag → List ℕ
+tagBytes t = numberBytes (t .number) (t .value)
 
 -- an opening and a closing have the value 0; any other tag may have any
-abbrev pub noValue : Number → ℕ → Bool
-noValue (application n) v = true
-noValue (context n) v = true
-noValue (opening n) v = eqb v 0
-noValue (closing n) v = eqb v 0
+abbrev pub valueAllowed : Number → ℕ → Bool
+valueAllowed (application n) v = true
+valueAllowed (context n) v = true
+valueAllowed (opening n) v = eqb v 0
+valueAllowed (closing n) v = eqb v 0
 
-unfoldable pub hasNoValue : Tag → Bool
-hasNoValue t = noValue (t .number) (t .value)
+unfoldable pub tagValueAllowed : Tag → Bool
+tagValueAllowed t = valueAllowed (t .number) (t .value)
 
 -- a tag whose value is not allowed cannot be written: 12
 abbrev pub writableTag : Tag → Writable
-writableTag t = if (hasNoValue t) can (cannot 12 (amount 0))
+writableTag t = if (tagValueAllowed t) can unwritable
 
 -- what writing a tag at a place of a buffer answers and leaves
 unfoldable pub tagTo : Tag → List ℕ → ℕ → Left
-tagTo t xs place = writing 0 (writableTag t) (headerBytes t) xs place
+tagTo t xs place = writing 0 (writableTag t) (tagBytes t) xs place
 
 -- bytes that others are to follow: the answer is of all of them, the place is behind these
 abbrev pub begun : List ℕ → List ℕ → ℕ → Answer (Unit {0}) → Left
@@ -64,4 +63,4 @@ begun bytes xs place (refused n c) = left (refused n c) xs
 
 -- what writing a tag answers and leaves, where so many bytes of content are to follow it
 unfoldable pub tagBefore : Tag → ℕ → List ℕ → ℕ → Left
-tagBefore t content xs place = begun (headerBytes t) xs place (writeAnswer 0 (writableTag t) (length (headerBytes t) + content) xs place)
+tagBefore t content xs place = begun (tagBytes t) xs place (writeAnswer 0 (writableTag t) (length (tagBytes t) + content) xs place)

@@ -4,7 +4,7 @@ ghost use mathlib.Core.List.{[], _∷_};
 ghost use Prim.Native.Nat.{_+_, _<_, _≤_};
 ghost use Rattle.types.specs.Tag.{tagOf};
 ghost use Rattle.tags.specs.Held.{holding, pushed, pushes};
-ghost use Rattle.tags.specs.Writing.{lowBits, contextBytes, valueBytes, headerBytes};
+ghost use Rattle.tags.specs.Writing.{lowBits, contextBytes, tagValueBytes, tagBytes};
 use types::Tag;
 use types::TagNumber;
 
@@ -16,7 +16,7 @@ pub(crate) struct Header {
 
 // The bytes of a tag.
 pub(crate) fn built(tag: Tag) -> Header
-    ensures { λ r. ⌜ r ≡ holding (headerBytes (tagOf tag)) ⌝ }
+    ensures { λ r. ⌜ r ≡ holding (tagBytes (tagOf tag)) ⌝ }
 {
     let value = tag.value;
     let number = tag.number;
@@ -79,7 +79,7 @@ fn context(number: u8, low: u8) -> Header
 // The header with the bytes that follow for a value.
 fn with_value(header: Header, value: u32) -> Header
     requires { ⌜ header .len < 3 ⌝ }
-    ensures { λ r. ⌜ r ≡ pushes header (valueBytes value) ⌝ }
+    ensures { λ r. ⌜ r ≡ pushes header (tagValueBytes value) ⌝ }
 {
     if value < 5 {
         return header;

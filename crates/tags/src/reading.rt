@@ -5,7 +5,7 @@ ghost use lib.ListN.{length};
 ghost use Rattle.types.specs.Tag.{applicationOf, numberOf, tagOf};
 ghost use Rattle.types.specs.Answer.{paperOutcome};
 ghost use Rattle.numbers.specs.Reading.{paperWord};
-ghost use Rattle.tags.specs.Reading.{numberFrom, valueFrom, tagAfter, tagFrom, expectedFrom, sameNumber, expectedNumber, expectedValue, paperNumber, paperTag};
+ghost use Rattle.tags.specs.Reading.{numberFrom, tagValueFrom, tagAfter, tagFrom, expectedFrom, sameNumber, expectedNumber, expectedValue, paperNumber, paperTag};
 use numbers::ByteRead;
 use numbers::WordRead;
 use types::ApplicationTagNumber;
@@ -120,7 +120,7 @@ fn number_after(first: u8, buf: &[u8], place: usize) -> NumberRead
 // The value that a tag's low bits tell, with the bytes after its number where it is long.
 fn value_after(low: u8, buf: &[u8], place: usize) -> WordRead
     requires { ⌜ (length (now buf) ≤ 65535) × (place ≤ length (now buf)) ⌝ }
-    ensures { λ r. ⌜ paperWord r ≡ valueFrom low (now (buf .entry)) place ⌝ }
+    ensures { λ r. ⌜ paperWord r ≡ tagValueFrom low (now (buf .entry)) place ⌝ }
 {
     if low < 5 {
         return WordRead::Word(low as u32, place);

@@ -2,7 +2,7 @@
 ghost use mathlib.Core.Path.{_≡_};
 ghost use Rattle.types.specs.Tag.{tagOf};
 ghost use Rattle.types.specs.Writing.{paperWritten, left};
-ghost use Rattle.tags.specs.Writing.{hasNoValue, tagTo, tagBefore};
+ghost use Rattle.tags.specs.Writing.{tagValueAllowed, tagTo, tagBefore};
 use crate::header::built;
 use crate::short::begin_short;
 use crate::short::built_plain;
@@ -67,7 +67,7 @@ fn begin_long(tag: Tag, content: u32, buf: &mut [u8], place: usize) -> Written
 
 // Whether a tag can be written: the value of an opening or a closing is 0.
 fn writable(tag: Tag) -> bool
-    ensures { λ r. ⌜ r ≡ hasNoValue (tagOf tag) ⌝ }
+    ensures { λ r. ⌜ r ≡ tagValueAllowed (tagOf tag) ⌝ }
 {
     let value = tag.value;
     let number = tag.number;

@@ -10,9 +10,9 @@ use lib.Dec.{ltb}
 use Rattle.types.specs.Choice.{if}
 use Rattle.types.specs.Refusal.{Carried, amount}
 use Rattle.types.specs.Answer.{Answer, refused}
-use Rattle.types.specs.Writing.{Left, left, settled, writeAnswer, writing}
+use Rattle.types.specs.Writing.{Left, left, settled, unwritable, writeAnswer, writing}
 use Rattle.thaolisem.specs.Told.{toldWrite}
-use Rattle.thaolisem.specs.Named.{never, namedTo}
+use Rattle.thaolisem.specs.Named.{namedTo}
 
 -- the eight numbers and the buffer of an answer that is known
 pub told-left : (l : Left) (r : Answer (Unit {0})) (ys t : List ℕ) → left r ys ≡ l → t ≡ toldWrite r → (t ≡ toldWrite (l .answer)) × (ys ≡ l .buffer)
@@ -32,7 +32,7 @@ kept true n c a xs place e = refl
 kept false n c a xs place e = e
 
 -- a write of what cannot be written leaves the buffer as it was
-pub nothing-left : (lent : ℕ) (xs : List ℕ) (place : ℕ) → left (writeAnswer lent never 0 xs place) xs ≡ writing lent never [] xs place
+pub nothing-left : (lent : ℕ) (xs : List ℕ) (place : ℕ) → left (writeAnswer lent unwritable 0 xs place) xs ≡ writing lent unwritable [] xs place
 unfolding writing writeAnswer
 nothing-left lent xs place =
     let cannot-be : Answer (Unit {0}) = refused 12 (amount 0) in
@@ -44,7 +44,7 @@ nothing-left lent xs place =
 
 -- where nothing is named, a refusal
 pub nothing-wrote : {A : Type 0} (lent : ℕ) (to : A → List ℕ → ℕ → Left) (place : ℕ) {named : Option A} {xs t : List ℕ} {r : Answer (Unit {0})}
-    → named ≡ none → r ≡ writeAnswer lent never 0 xs place → t ≡ toldWrite r
+    → named ≡ none → r ≡ writeAnswer lent unwritable 0 xs place → t ≡ toldWrite r
     → (t ≡ toldWrite (namedTo lent named to xs place .answer)) × (xs ≡ namedTo lent named to xs place .buffer)
 nothing-wrote {A} lent to place {named} {xs} {t} {r} e wrote told =
     told-left (namedTo lent named to xs place) r xs t (ap (λ (x : Answer (Unit {0})). left x xs) wrote ∙ nothing-left lent xs place ∙ sym (ap (λ (o : Option A). namedTo lent o to xs place) e)) told

@@ -8,8 +8,7 @@ use mathlib.Core.Option.{Option, none, some}
 use lib.Dec.{ltb, eqb}
 use Rattle.types.specs.Choice.{if}
 use Rattle.types.specs.Tag.{Number, application, context, opening, closing, Tag, tag, numberOf}
-use Rattle.types.specs.Refusal.{amount}
-use Rattle.types.specs.Writing.{Left, Writable, cannot, writing}
+use Rattle.types.specs.Writing.{Left, unwritable, writing}
 use Rattle.tags.specs.Writing.{tagTo}
 use Rattle.tags.specs.Item.{itemTo, numberUnder, booleanByte}
 use Rattle.headers.specs.Header.{Header, header, request, simple, complex, segment, nibbles, number, choice, headerOf}
@@ -21,14 +20,10 @@ use Rattle.thaolisem.specs.declared.integer.ContextTagNamed.the-variants
 use Rattle.thaolisem.specs.declared.header.HeaderNamed as program-header
 use Rattle.thaolisem.specs.declared.header.HeaderNamed.the-variants as h
 
--- refused 12
-abbrev pub never : Writable
-never = cannot 12 (amount 0)
-
 -- the write of what is named; where nothing is, 12, after 01's tests of the buffer, the lent content and the place
 abbrev pub namedTo : {A : Type 0} → ℕ → Option A → (A → List ℕ → ℕ → Left) → List ℕ → ℕ → Left
 namedTo lent (some a) to xs place = to a xs place
-namedTo lent none to xs place = writing lent never [] xs place
+namedTo lent none to xs place = writing lent unwritable [] xs place
 
 -- an application tag's number goes to 15
 abbrev pub applicationNamed : ℕ → Option Number

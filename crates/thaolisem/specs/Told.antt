@@ -91,7 +91,7 @@ toldValue (accepted v next) = valueTold v next
 toldValue (refused n c) = toldRefusal n c 0
 
 -- the numbers of a header's fields, in their order
-abbrev pub fieldNumbers : List headers.Value → List ℕ
+abbrev pub fieldNumbers : List headers.FieldValue → List ℕ
 fieldNumbers [] = []
 fieldNumbers (headers.nibbles a b ∷ vs) = a ∷ b ∷ fieldNumbers vs
 fieldNumbers (headers.number n ∷ vs) = n ∷ fieldNumbers vs

@@ -2,9 +2,8 @@
 ghost use mathlib.Core.Path.{_≡_};
 ghost use Rattle.types.specs.Tag.{numberOf};
 ghost use Rattle.types.specs.Refusal.{table};
-ghost use Rattle.types.specs.Writing.{paperWritten, writeAnswer};
+ghost use Rattle.types.specs.Writing.{paperWritten, unwritable, writeAnswer};
 ghost use Rattle.thaolisem.specs.Told.{classOf, numberIn, toldRefusal, toldWrite};
-ghost use Rattle.thaolisem.specs.Named.{never};
 use types::Carried;
 use types::Refusal;
 use types::TagNumber;
@@ -69,7 +68,7 @@ pub(crate) fn written(answer: Written) -> [u64; 8]
 
 // The refusal of a write whose numbers name nothing that can be written.
 pub(crate) fn nothing_named(lent: usize, buf: &[u8], place: usize) -> Written
-    ensures { λ r. ⌜ paperWritten r ≡ writeAnswer lent never 0 (now (buf .entry)) place ⌝ }
+    ensures { λ r. ⌜ paperWritten r ≡ writeAnswer lent unwritable 0 (now (buf .entry)) place ⌝ }
 {
     if 65535 < buf.len() {
         return Written::Refused(Refusal::BufferTooLong(buf.len()));

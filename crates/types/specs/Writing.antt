@@ -19,6 +19,10 @@ pub data Writable : Type 0 where
   can : Writable
   cannot : ℕ → Carried → Writable
 
+-- what no bytes stand for: 12
+abbrev pub unwritable : Writable
+unwritable = cannot 12 (amount 0)
+
 abbrev pub unless : Writable → Answer (Unit {0}) → Answer (Unit {0})
 unless can a = a
 unless (cannot n c) a = refused n c

@@ -19,7 +19,7 @@ use Rattle.numbers.proofs.Low.{low-bytes-of-value}
 use Rattle.numbers.proofs.Found.{behind}
 use Rattle.tags.specs.Reading.{tagFrom}
 use Rattle.tags.specs.Header.{IsTag}
-use Rattle.tags.specs.Writing.{headerBytes}
+use Rattle.tags.specs.Writing.{tagBytes}
 use Rattle.tags.specs.Item.{booleanByte}
 use Rattle.tags.proofs.Exactly.{tag-read}
 use Rattle.tags.proofs.Back.{header-is-tag}
@@ -111,31 +111,21 @@ module _ (xs : List ℕ) where
   was-canonical ofTime e f = tt
   was-canonical (ofObjectId bytes h) e f = tt
 
--- bytes begin with one tag only
-one-tag : (t u : Tag) (h c k d : List ℕ) → IsTag t h → IsTag u k → h ++ c ≡ k ++ d → length (h ++ c) ≤ 65535 → (t ≡ u) × (h ≡ k) × (c ≡ d)
-one-tag t u h c k d i j e small =
-    let r : tagFrom (h ++ c) 0 ≡ accepted t (0 + length h) = tag-read (h ++ c) small 0 t h c refl i in
-    let s : tagFrom (h ++ c) 0 ≡ accepted u (0 + length k) = tag-read (h ++ c) small 0 u k d e j in
-    let same : t ≡ u = cc in
-    let l : 0 + length h ≡ 0 + length k = cc in
-    let n : length k ≡ length h = omega arith in
-    (same, sym (take-at h c (length h) refl) ∙ ap (take (length h)) e ∙ take-at k d (length h) n, sym (drop-at h c (length h) refl) ∙ ap (drop (length h)) e ∙ drop-at k d (length h) n)
-
 -- a value that was read at a place, written again, gives the bytes that stood there exactly if its header was the shortest and its content canonical
-pub written-again : (xs : List ℕ) (place : ℕ) (v : Value) (next : ℕ) (f : ValueAt xs place v next) → Bytes (f .content) → length (lentOf v xs) ≤ 65535 → length (f .header ++ f .content) ≤ 65535
-    → (valueBytes v (lentOf v xs) ≡ f .header ++ f .content) ↔ ((f .header ≡ headerBytes (f .found)) × Kept (f .is))
-written-again xs place v next f b lent small = (to, from)
+pub written-again : (xs : List ℕ) (place : ℕ) (v : Value) (next : ℕ) (f : ValueAt xs place v next) → Bytes (f .content) → length (lentOf v xs) ≤ 65535
+    → (valueBytes v (lentOf v xs) ≡ f .header ++ f .content) ↔ ((f .header ≡ tagBytes (f .found)) × Kept (f .is))
+written-again xs place v next f b lent = (to, from)
   where
     here : drop (place + length (f .header)) xs ≡ f .content ++ f .rest
     here = behind xs place (f .header) (f .content ++ f .rest) (f .here)
 
-    to : valueBytes v (lentOf v xs) ≡ f .header ++ f .content → (f .header ≡ headerBytes (f .found)) × Kept (f .is)
+    to : valueBytes v (lentOf v xs) ≡ f .header ++ f .content → (f .header ≡ tagBytes (f .found)) × Kept (f .is)
     to e =
         let u : Tag = tagUnder v (lentOf v xs) in
-        let o = one-tag (f .found) u (f .header) (f .content) (headerBytes u) (contentUnder v (lentOf v xs)) (f .is-tag) (header-is-tag (u .number) (u .value) (tag-in-range v (lentOf v xs) lent)) (sym e ∙ bytes-are v (lentOf v xs)) small in
-        (o .1 ∙ ap headerBytes (sym (o .0)), was-canonical xs (f .is) (sym (o .0)) (sym (o .2)))
+        let o = one-tag (f .is-tag) (header-is-tag (u .number) (u .value) (tag-in-range v (lentOf v xs) lent)) (f .content) (contentUnder v (lentOf v xs)) (sym e ∙ bytes-are v (lentOf v xs)) in
+        (o .same-bytes ∙ ap tagBytes (sym (o .same-tag)), was-canonical xs (f .is) (sym (o .same-tag)) (sym (o .same-rest)))
 
-    from : (f .header ≡ headerBytes (f .found)) × Kept (f .is) → valueBytes v (lentOf v xs) ≡ f .header ++ f .content
+    from : (f .header ≡ tagBytes (f .found)) × Kept (f .is) → valueBytes v (lentOf v xs) ≡ f .header ++ f .content
     from h =
         let s = same-content xs (f .is) b (f .rest) here (h .1) in
-        bytes-are v (lentOf v xs) ∙ ap₂ (λ (t : Tag) (l : List ℕ). headerBytes t ++ l) (s .0) (s .1) ∙ ap (λ (l : List ℕ). l ++ f .content) (sym (h .0))
+        bytes-are v (lentOf v xs) ∙ ap₂ (λ (t : Tag) (l : List ℕ). tagBytes t ++ l) (s .0) (s .1) ∙ ap (λ (l : List ℕ). l ++ f .content) (sym (h .0))

@@ -24,7 +24,7 @@ use Rattle.numbers.proofs.Low.{low-bytes-stand}
 use Rattle.numbers.proofs.Shortest.{unsigned-length, signed-length, signed-between, unsigned-shortest, signed-shortest}
 use Rattle.numbers.proofs.Least.{length-between}
 use Rattle.numbers.proofs.Wrote.{wrote, written-here, over-length}
-use Rattle.tags.specs.Writing.{headerBytes}
+use Rattle.tags.specs.Writing.{tagBytes}
 use Rattle.tags.specs.Item.{booleanByte}
 use Rattle.tags.proofs.Range.{InRange}
 use Rattle.tags.proofs.Back.{header-is-tag}
@@ -97,9 +97,9 @@ contentUnder (atTime t) lent = timeBytes t
 contentUnder (objectId n i) lent = lowBytes 4 (n * 4194304 + i)
 
 -- a value's bytes are its tag's and its content
-pub bytes-are : (v : Value) (lent : List ℕ) → valueBytes v lent ≡ headerBytes (tagUnder v lent) ++ contentUnder v lent
+pub bytes-are : (v : Value) (lent : List ℕ) → valueBytes v lent ≡ tagBytes (tagUnder v lent) ++ contentUnder v lent
 unfolding valueBytes
-bytes-are (boolean b) lent = sym (append-nil (headerBytes (tag (application 1) (booleanByte b))))
+bytes-are (boolean b) lent = sym (append-nil (tagBytes (tag (application 1) (booleanByte b))))
 bytes-are (real x) lent = refl
 bytes-are (double x) lent = refl
 bytes-are (onDate d) lent = refl
@@ -203,11 +203,11 @@ accepted-could lent w bytes xs place next ys e =
 
 -- whatever `encode` writes, `decode` reads as the same value at the same place, with the next place at its end; what cannot be written is refused 12 or 10 and named by `writableValue`
 pub round-trip : (v : Value) (lent : List ℕ) → Held v → (xs : List ℕ) (place next : ℕ) (ys : List ℕ) → valueTo v lent xs place ≡ left (accepted tt next) ys
-    → valueFrom ys place ≡ accepted (placed v (place + length (headerBytes (tagUnder v lent))) lent) next
+    → valueFrom ys place ≡ accepted (placed v (place + length (tagBytes (tagUnder v lent))) lent) next
 unfolding valueTo
 round-trip v lent h xs place next ys e =
     let t : Tag = tagUnder v lent in
-    let header : List ℕ = headerBytes t in
+    let header : List ℕ = tagBytes t in
     let content : List ℕ = contentUnder v lent in
     let c = accepted-could (length lent) (writableValue v lent) (valueBytes v lent) xs place next ys e in
     let w = wrote (length lent) (writableValue v lent) (valueBytes v lent) xs place next ys e in

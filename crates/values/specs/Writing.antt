@@ -9,9 +9,9 @@ use Rattle.types.specs.Choice.{if}
 use Rattle.types.specs.Tag.{application, tag}
 use Rattle.types.specs.Refusal.{amount}
 use Rattle.types.specs.Answer.{Outcome, passed, stopped}
-use Rattle.types.specs.Writing.{Left, Writable, can, cannot, writing}
+use Rattle.types.specs.Writing.{Left, Writable, can, cannot, unwritable, writing}
 use Rattle.numbers.specs.Integer.{lowBytes, unsignedBytes, signedBytes}
-use Rattle.tags.specs.Writing.{headerBytes}
+use Rattle.tags.specs.Writing.{tagBytes}
 use Rattle.tags.specs.Item.{itemBytes, booleanByte}
 use Rattle.utf8.specs.Check.{Verdict, good, badAt, checkOf}
 use Rattle.values.specs.Value.{Value, boolean, real, double, onDate, atTime, objectId, characterString, octetString, enumerated, bitString, unsignedInt, signedInt, Date, Time}
@@ -25,7 +25,7 @@ timeBytes t = t .hour ∷ t .minute ∷ t .second ∷ t .hundredths ∷ []
 
 -- a value's bytes, the lent bytes being the content of text, octets and bits: a Boolean is its tag alone; a Double stands under the Real tag, as 01 keeps it
 abbrev pub bytesOf : Value → List ℕ → List ℕ
-bytesOf (boolean b) lent = headerBytes (tag (application 1) (booleanByte b))
+bytesOf (boolean b) lent = tagBytes (tag (application 1) (booleanByte b))
 bytesOf (unsignedInt x) lent = itemBytes (application 2) (unsignedBytes x)
 bytesOf (signedInt x) lent = itemBytes (application 3) (signedBytes x)
 bytesOf (real x) lent = itemBytes (application 4) (lowBytes 4 (toBits binary32 x))
@@ -42,21 +42,17 @@ bytesOf (objectId n i) lent = itemBytes (application 12) (lowBytes 4 (n * 419430
 unfoldable pub valueBytes : Value → List ℕ → List ℕ
 valueBytes v lent = bytesOf v lent
 
--- refused 12
-abbrev pub never : Writable
-never = cannot 12 (amount 0)
-
 -- a year from 1900 to 2155
 unfoldable pub dateWritable : ℕ → Writable
-dateWritable year = if (ltb year 1900) never (if (ltb 2155 year) never can)
+dateWritable year = if (ltb year 1900) unwritable (if (ltb 2155 year) unwritable can)
 
 -- a type of ten bits, an instance of 22
 unfoldable pub objectIdWritable : ℕ → ℕ → Writable
-objectIdWritable n i = if (ltb 1023 n) never (if (ltb 4194303 i) never can)
+objectIdWritable n i = if (ltb 1023 n) unwritable (if (ltb 4194303 i) unwritable can)
 
 -- at most seven unused bits, and none where there are no bytes
 unfoldable pub bitsWritable : ℕ → List ℕ → Writable
-bitsWritable unused lent = if (ltb 7 unused) never (if (eqb unused 0) can (if (eqb (length lent) 0) never can))
+bitsWritable unused lent = if (ltb 7 unused) unwritable (if (eqb unused 0) can (if (eqb (length lent) 0) unwritable can))
 
 -- text that is UTF-8, else 10 with the first bad place
 abbrev pub textWritableBy : Verdict → Writable

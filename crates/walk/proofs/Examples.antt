@@ -6,7 +6,7 @@ use Rattle.types.specs.Tag.{application, context, opening, closing, tag}
 use Rattle.types.specs.Refusal.{amount}
 use Rattle.types.specs.Answer.{passed, stopped}
 use Rattle.numbers.specs.Reading.{byteFrom, sliceFrom, fixedFrom}
-use Rattle.tags.specs.Reading.{numberFrom, valueFrom, tagAfter, tagFrom}
+use Rattle.tags.specs.Reading.{numberFrom, tagValueFrom, tagAfter, tagFrom}
 use Rattle.walk.specs.Tag.{itemFrom}
 use Rattle.walk.specs.Walk.{seen, walked, stepFrom, walkFor, walkOn, walkFrom, Report, report, reported}
 
@@ -36,7 +36,7 @@ expected =
     ∷ report 0 passed ∷ []
 
 pub examples : given ≡ expected
-unfolding byteFrom sliceFrom fixedFrom numberFrom valueFrom tagAfter tagFrom itemFrom stepFrom walkFor walkOn walkFrom
+unfolding byteFrom sliceFrom fixedFrom numberFrom tagValueFrom tagAfter tagFrom itemFrom stepFrom walkFor walkOn walkFrom
 examples = refl
 
 -- 30 01 0C 0C 00 80 00 05 19 55 3E 44 42 90 00 00 3F, from place 3: the five tags that the program prints
@@ -44,5 +44,5 @@ pub frame : walkFrom (0x30 ∷ 0x01 ∷ 0x0C ∷ 0x0C ∷ 0x00 ∷ 0x80 ∷ 0x00
     ≡ walked
     (seen 3 0 (tag (context 0) 4) ∷ seen 8 0 (tag (context 1) 1) ∷ seen 10 0 (tag (opening 3) 0) ∷ seen 11 1 (tag (application 4) 4) ∷ seen 16 0 (tag (closing 3) 0) ∷ [])
     passed
-unfolding byteFrom sliceFrom fixedFrom numberFrom valueFrom tagAfter tagFrom itemFrom stepFrom walkFor walkOn walkFrom
+unfolding byteFrom sliceFrom fixedFrom numberFrom tagValueFrom tagAfter tagFrom itemFrom stepFrom walkFor walkOn walkFrom
 frame = refl

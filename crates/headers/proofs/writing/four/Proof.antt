@@ -3,7 +3,7 @@
 use native.Mathlib.Omega.{arith}
 use mathlib.Core.List.{[], _∷_}
 use lib.ListN.{length-set}
-use Rattle.headers.proofs.Built.{stored, no-room}
+use Rattle.headers.proofs.Stored.{stored, no-room}
 use borrow.Author.Needs.{needs}
 use Rattle.headers.proofs.writing.four.Statement.{statement}
 use Rattle.headers.proofs.writing.four.Tie as tie

@@ -5,7 +5,7 @@ use mathlib.Core.List.{[], _∷_}
 use lib.ListN.{length, length-set}
 use borrow.Author.Tests.{lt-ltb, le-ltb}
 use Rattle.types.specs.Writing.{writeAnswer, writing}
-use Rattle.headers.proofs.Built.{stored, no-room}
+use Rattle.headers.proofs.Stored.{stored, no-room}
 use borrow.Author.Needs.{needs}
 use Rattle.headers.proofs.writing.three.Statement.{statement}
 use Rattle.headers.proofs.writing.three.Tie as tie

@@ -5,7 +5,7 @@ use native.Mathlib.Omega.{arith}
 use Prim.Native.Nat.{_+_, _*_}
 use mathlib.Core.List.{[], _∷_}
 use Rattle.types.specs.Tag.{applicationOf}
-use Rattle.tags.specs.Writing.{headerBytes, valueBytes, contextBytes, lowBits}
+use Rattle.tags.specs.Writing.{tagBytes, tagValueBytes, contextBytes, lowBits}
 use Rattle.tags.proofs.Held.{pushes-holding, value-short, context-short}
 use Rattle.tags.proofs.header.built.Statement.{statement}
 use Rattle.tags.proofs.header.built.Tie as tie
@@ -56,26 +56,26 @@ context-requires-3 : tie.Need-context-requires-3
 context-requires-3 c κs = search needs
 
 returns : tie.Need-returns
-unfolding headerBytes
+unfolding tagBytes
 returns c =
     let v = c .before .before .before .before .before .before .before .args .tag .value in
     simp (c .with-value .ensures, c .before .one-byte .ensures .0, c .before .before .low .ensures .0, c .before .before .before .number2 .ensures .0, c .before .before .before .before .before .number .given .1)
-    (pushes-holding (valueBytes v) ((applicationOf (c .before .before .before .before .before .number .given .0 .0) * 16 + lowBits v) ∷ []) (omega (arith, value-short v)))
+    (pushes-holding (tagValueBytes v) ((applicationOf (c .before .before .before .before .before .number .given .0 .0) * 16 + lowBits v) ∷ []) (omega (arith, value-short v)))
 
 returns-2 : tie.Need-returns-2
-unfolding headerBytes
+unfolding tagBytes
 returns-2 c =
     let v = c .before .before .before .before .before .before .args .tag .value in
     let n = c .before .before .before .before .number3 .given .0 .0 in
     simp (c .with-value2 .ensures, c .before .context .ensures .0, c .before .before .low2 .ensures .0, c .before .before .before .before .number3 .given .1)
-    (pushes-holding (valueBytes v) (contextBytes n (lowBits v)) (omega (arith, value-short v, context-short n (lowBits v))))
+    (pushes-holding (tagValueBytes v) (contextBytes n (lowBits v)) (omega (arith, value-short v, context-short n (lowBits v))))
 
 returns-3 : tie.Need-returns-3
-unfolding headerBytes
+unfolding tagBytes
 returns-3 c = simp (c .context2 .ensures .0, c .before .before .number4 .given .1)
 
 returns-4 : tie.Need-returns-4
-unfolding headerBytes
+unfolding tagBytes
 returns-4 c = simp (c .context3 .ensures .0, c .before .before .number5 .given .1)
 
 pub built-spec : {M : Type 1} → statement M

@@ -1,4 +1,4 @@
--- `tags::with_value` meets its contract: at each return the tests that led there say which case of `valueBytes` holds.
+-- `tags::with_value` meets its contract: at each return the tests that led there say which case of `tagValueBytes` holds.
 -- Assumes nothing.
 use borrow.Author.Needs.{needs}
 use borrow.Author.Tests.{lt-ltb, le-ltb}

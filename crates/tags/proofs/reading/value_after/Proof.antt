@@ -1,4 +1,4 @@
--- `tags::value_after` meets its contract: at each return the tests that led there say which case of `valueFrom` holds.
+-- `tags::value_after` meets its contract: at each return the tests that led there say which case of `tagValueFrom` holds.
 -- Assumes nothing.
 use borrow.Author.Needs.{needs}
 use mathlib.Core.Path.{_≡_}
@@ -8,20 +8,20 @@ use native.Mathlib.Omega.{arith}
 use borrow.Author.Tests.{lt-ltb, le-ltb, le-leb, lt-leb, eq-eqb, ne-eqb}
 use Rattle.types.specs.Answer.{accepted}
 use Rattle.numbers.specs.Reading.{byteFrom}
-use Rattle.tags.specs.Reading.{valueFrom}
+use Rattle.tags.specs.Reading.{tagValueFrom}
 use Rattle.tags.proofs.reading.value_after.Statement.{statement}
 use Rattle.tags.proofs.reading.value_after.Tie as tie
 
 returns : tie.Need-returns
-unfolding valueFrom
+unfolding tagValueFrom
 returns c = simp (lt-ltb _ _ (c .if1 .taken))
 
 returns-2 : tie.Need-returns-2
-unfolding valueFrom
+unfolding tagValueFrom
 returns-2 c = simp (le-ltb _ _ (c .before .if1 .left), ne-eqb _ _ (c .if2 .taken))
 
 returns-3 : tie.Need-returns-3
-unfolding valueFrom byteFrom
+unfolding tagValueFrom byteFrom
 returns-3 c = let a = c .before .before .before .before .args in let p = c .before .before .before .before .pre in simp (le-ltb _ _ (c .before .before .if1 .left), eq-eqb _ _ (c .before .if2 .left), le-ltb 65535 (length (a .buf .now)) (p .0), le-ltb (length (a .buf .now)) (a .place) (p .1), le-leb _ _ (c .if3 .taken))
 
 shared-slice-read-value : tie.Need-shared-slice-read-value
@@ -39,21 +39,21 @@ read-two-bytes-requires : tie.Need-read-two-bytes-requires
 read-two-bytes-requires c κs = search needs
 
 returns-4 : tie.Need-returns-4
-unfolding valueFrom
+unfolding tagValueFrom
 returns-4 c = simp (le-ltb _ _ (c .before .before .before .before .before .if1 .left), eq-eqb _ _ (c .before .before .before .before .if2 .left), byte (c .before .before), eq-eqb _ _ (c .before .if4 .taken)) (c .read-two-bytes .ensures)
 
 read-four-bytes-requires : tie.Need-read-four-bytes-requires
 read-four-bytes-requires c κs = search needs
 
 returns-5 : tie.Need-returns-5
-unfolding valueFrom
+unfolding tagValueFrom
 returns-5 c = simp (le-ltb _ _ (c .before .before .before .before .before .before .if1 .left), eq-eqb _ _ (c .before .before .before .before .before .if2 .left), byte (c .before .before .before), ne-eqb _ _ (c .before .before .if4 .left), eq-eqb _ _ (c .before .if5 .taken)) (c .read-four-bytes .ensures)
 
 cast-t13 : tie.Need-cast-t13
 cast-t13 c = omega (arith, c .before .before .shared-slice-known2 .given (c .before .before .before .before .before .before .before .args .place))
 
 returns-6 : tie.Need-returns-6
-unfolding valueFrom
+unfolding tagValueFrom
 returns-6 c = simp (le-ltb _ _ (c .before .before .before .before .before .if1 .left), eq-eqb _ _ (c .before .before .before .before .if2 .left), byte (c .before .before), ne-eqb _ _ (c .before .if4 .left), ne-eqb _ _ (c .if5 .left))
 
 pub value-after-spec : {M : Type 1} → statement M

@@ -9,20 +9,20 @@ use lib.ListN.{length, take}
 use Rattle.types.specs.Tag.{tagOf}
 use Rattle.types.specs.Writing.{writeAnswer}
 use Rattle.tags.specs.declared.header.Header.{Header}
-use Rattle.tags.specs.Writing.{tagBefore, headerBytes}
+use Rattle.tags.specs.Writing.{tagBefore, tagBytes}
 use Rattle.tags.proofs.Held.{padded, header-short, held-bytes}
 use Rattle.tags.proofs.Begun.{begun-written}
 use Rattle.tags.proofs.writing.begin_long.Statement.{statement}
 use Rattle.tags.proofs.writing.begin_long.Tie as tie
 
-sized : (c : tie.After-built) → c .built .result .len ≡ length (headerBytes (tagOf (c .before .before .before .before .before .before .args .tag)))
+sized : (c : tie.After-built) → c .built .result .len ≡ length (tagBytes (tagOf (c .before .before .before .before .before .before .args .tag)))
 sized c = ap (λ (h : Header). h .len) (c .built .ensures)
 
-short : (c : tie.After-built) → length (headerBytes (tagOf (c .before .before .before .before .before .before .args .tag))) ≤ 7
+short : (c : tie.After-built) → length (tagBytes (tagOf (c .before .before .before .before .before .before .args .tag))) ≤ 7
 short c = header-short (tagOf (c .before .before .before .before .before .before .args .tag))
 
-held : (c : tie.After-built) → take (c .built .result .len) (c .built .result .bytes) ≡ headerBytes (tagOf (c .before .before .before .before .before .before .args .tag))
-held c = held-bytes (c .built .result) (headerBytes (tagOf (c .before .before .before .before .before .before .args .tag))) (c .built .ensures) (short c)
+held : (c : tie.After-built) → take (c .built .result .len) (c .built .result .bytes) ≡ tagBytes (tagOf (c .before .before .before .before .before .before .args .tag))
+held c = held-bytes (c .built .result) (tagBytes (tagOf (c .before .before .before .before .before .before .args .tag))) (c .built .ensures) (short c)
 
 returns : tie.Need-returns
 unfolding tagBefore writeAnswer
@@ -52,7 +52,7 @@ returns-4 : tie.Need-returns-4
 unfolding tagBefore writeAnswer
 returns-4 c =
     let a = c .before .before .before .before .before .before .before .before .args in
-    let h : length (a .buf .now) < a .place + (length (headerBytes (tagOf (a .tag))) + a .content) = omega (arith, sized (c .before .before)) in
+    let h : length (a .buf .now) < a .place + (length (tagBytes (tagOf (a .tag))) + a .content) = omega (arith, sized (c .before .before)) in
     simp (le-ltb _ _ (c .before .before .before .before .before .before .if1 .left), le-ltb _ _ (c .before .before .before .before .before .if2 .left), sym (c .before .before .before .before .writable .ensures) ∙ not-false _ (c .before .before .before .if3 .left), sized (c .before .before), lt-ltb _ _ h)
 
 sub-extend-from-slice : tie.Need-sub-extend-from-slice
@@ -62,7 +62,7 @@ part-extend-from-slice-start : tie.Need-part-extend-from-slice-start
 part-extend-from-slice-start c = search needs
 
 part-extend-from-slice-end : tie.Need-part-extend-from-slice-end
-part-extend-from-slice-end c = omega (arith, sized (c .before .before .before), short (c .before .before .before), ap (λ (h : Header). length (h .bytes)) (c .before .before .before .built .ensures) ∙ padded 7 (headerBytes (tagOf (c .before .before .before .before .before .before .before .before .before .args .tag))))
+part-extend-from-slice-end c = omega (arith, sized (c .before .before .before), short (c .before .before .before), ap (λ (h : Header). length (h .bytes)) (c .before .before .before .built .ensures) ∙ padded 7 (tagBytes (tagOf (c .before .before .before .before .before .before .before .before .before .args .tag))))
 
 extend-from-slice-requires : tie.Need-extend-from-slice-requires
 extend-from-slice-requires c κs = search needs

@@ -1,7 +1,7 @@
 -- `tags::writable` meets its contract: in each arm the class is known.
 -- Assumes nothing.
 use borrow.Author.Needs.{needs}
-use Rattle.tags.specs.Writing.{hasNoValue}
+use Rattle.tags.specs.Writing.{tagValueAllowed}
 use Rattle.tags.proofs.writing.writable.Statement.{statement}
 use Rattle.tags.proofs.writing.writable.Tie as tie
 
@@ -18,19 +18,19 @@ enum-told-4 : tie.Need-enum-told-4
 enum-told-4 c = search needs
 
 returns : tie.Need-returns
-unfolding hasNoValue
+unfolding tagValueAllowed
 returns c = simp (c .enum-told .given .1)
 
 returns-2 : tie.Need-returns-2
-unfolding hasNoValue
+unfolding tagValueAllowed
 returns-2 c = simp (c .enum-told2 .given .1)
 
 returns-3 : tie.Need-returns-3
-unfolding hasNoValue
+unfolding tagValueAllowed
 returns-3 c = simp (c .enum-told3 .given .1)
 
 returns-4 : tie.Need-returns-4
-unfolding hasNoValue
+unfolding tagValueAllowed
 returns-4 c = simp (c .enum-told4 .given .1)
 
 pub writable-spec : {M : Type 1} → statement M

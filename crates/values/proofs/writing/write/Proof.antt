@@ -14,7 +14,7 @@ use Rattle.types.specs.Tag.{application}
 use Rattle.types.specs.Writing.{can, Left, writing}
 use Rattle.numbers.specs.Integer.{lowBytes, signedBytes}
 use Rattle.tags.specs.Item.{itemTo}
-use Rattle.tags.specs.Writing.{hasNoValue, tagTo}
+use Rattle.tags.specs.Writing.{tagValueAllowed, tagTo}
 use Rattle.values.specs.Value.{valueOf}
 use Rattle.values.specs.Writing.{writableValue, valueBytes}
 use Rattle.values.specs.declared.value.ApplicationDataValue.{ApplicationDataValue}
@@ -134,7 +134,7 @@ same-length : tie.Need-same-length
 same-length c = search needs
 
 returns : tie.Need-returns
-unfolding valueBytes itemTo tagTo hasNoValue
+unfolding valueBytes itemTo tagTo tagValueAllowed
 returns c =
     let s = c .before .before .before .before .before .before .before .before .before in
     let a = s .args in
@@ -144,7 +144,7 @@ same-length-2 : tie.Need-same-length-2
 same-length-2 c = search needs
 
 returns-2 : tie.Need-returns-2
-unfolding valueBytes itemTo tagTo hasNoValue
+unfolding valueBytes itemTo tagTo tagValueAllowed
 returns-2 c =
     let s = c .before .before .before .before .before .before .before .before .before .before .before in
     let a = s .args in
@@ -154,7 +154,7 @@ same-length-3 : tie.Need-same-length-3
 same-length-3 c = search needs
 
 returns-3 : tie.Need-returns-3
-unfolding valueBytes itemTo tagTo hasNoValue
+unfolding valueBytes itemTo tagTo tagValueAllowed
 returns-3 c =
     let s = c .before .before .before .before .before .before .before .before .before .before .before in
     let a = s .args in
@@ -164,7 +164,7 @@ same-length-4 : tie.Need-same-length-4
 same-length-4 c = search needs
 
 returns-4 : tie.Need-returns-4
-unfolding valueBytes itemTo tagTo hasNoValue
+unfolding valueBytes itemTo tagTo tagValueAllowed
 returns-4 c =
     let s = c .before .before .before .before .before .before .before .before .before .before in
     let a = s .args in
@@ -174,7 +174,7 @@ same-length-5 : tie.Need-same-length-5
 same-length-5 c = search needs
 
 returns-5 : tie.Need-returns-5
-unfolding valueBytes itemTo tagTo hasNoValue
+unfolding valueBytes itemTo tagTo tagValueAllowed
 returns-5 c =
     let s = c .before .before .before .before .before .before .before .before .before in
     let a = s .args in
@@ -184,7 +184,7 @@ same-length-6 : tie.Need-same-length-6
 same-length-6 c = search needs
 
 returns-6 : tie.Need-returns-6
-unfolding valueBytes itemTo tagTo hasNoValue
+unfolding valueBytes itemTo tagTo tagValueAllowed
 returns-6 c =
     let s = c .before .before .before .before .before .before .before .before .before .before .before in
     let a = s .args in
@@ -194,7 +194,7 @@ same-length-7 : tie.Need-same-length-7
 same-length-7 c = search needs
 
 returns-7 : tie.Need-returns-7
-unfolding valueBytes itemTo tagTo hasNoValue
+unfolding valueBytes itemTo tagTo tagValueAllowed
 returns-7 c =
     let s = c .before .before .before .before .before .before .before .before in
     let a = s .args in
@@ -204,7 +204,7 @@ same-length-8 : tie.Need-same-length-8
 same-length-8 c = search needs
 
 returns-8 : tie.Need-returns-8
-unfolding valueBytes itemTo tagTo hasNoValue
+unfolding valueBytes itemTo tagTo tagValueAllowed
 returns-8 c =
     let s = c .before .before .before .before .before .before .before .before in
     let a = s .args in
@@ -214,7 +214,7 @@ same-length-9 : tie.Need-same-length-9
 same-length-9 c = search needs
 
 returns-9 : tie.Need-returns-9
-unfolding valueBytes itemTo tagTo hasNoValue
+unfolding valueBytes itemTo tagTo tagValueAllowed
 returns-9 c =
     let s = c .before .before .before .before .before .before .before .before .before in
     let a = s .args in
@@ -224,7 +224,7 @@ same-length-10 : tie.Need-same-length-10
 same-length-10 c = search needs
 
 returns-10 : tie.Need-returns-10
-unfolding valueBytes itemTo tagTo hasNoValue
+unfolding valueBytes itemTo tagTo tagValueAllowed
 returns-10 c =
     let s = c .before .before .before .before .before .before .before .before .before in
     let a = s .args in
@@ -234,7 +234,7 @@ same-length-11 : tie.Need-same-length-11
 same-length-11 c = search needs
 
 returns-11 : tie.Need-returns-11
-unfolding valueBytes itemTo tagTo hasNoValue
+unfolding valueBytes itemTo tagTo tagValueAllowed
 returns-11 c =
     let s = c .before .before .before .before .before .before .before .before .before in
     let a = s .args in
@@ -244,7 +244,7 @@ same-length-12 : tie.Need-same-length-12
 same-length-12 c = search needs
 
 returns-12 : tie.Need-returns-12
-unfolding valueBytes itemTo tagTo hasNoValue
+unfolding valueBytes itemTo tagTo tagValueAllowed
 returns-12 c =
     let s = c .before .before .before .before .before .before .before .before .before in
     let a = s .args in
