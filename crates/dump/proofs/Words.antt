@@ -37,3 +37,10 @@ last n w = record { some = omega arith; text = w }
 -- words that are there already
 pub others : (ws : List (List ℕ)) {xs ys : List ℕ} {at p : ℕ} → 0 < length ws → Wrote xs at (line ws) ys p → Words xs at ws ys p
 others ws h w = record { some = h; text = w }
+
+-- a word, a number of at most three digits and a last one of at most ten: the line, and how far it goes
+pub word-and-two : (w : List ℕ) (n v : ℕ) {xs ys zs us : List ℕ} {at p q r : ℕ} → n < 1000 → v < 10000000000
+    → Wrote xs at (w ++ (32 ∷ [])) ys p → Wrote ys p (decimal n ++ (32 ∷ [])) zs q → Wrote zs q (decimal v ++ (10 ∷ [])) us r
+    → Wrote xs at (line (w ∷ decimal n ∷ decimal v ∷ [])) us r × (r ≤ at + (length w + 16))
+word-and-two w n v few many a b c =
+    (word w a (number n b (last v c)) .text, omega (arith, a .after, length-append w (32 ∷ []), number-most 2 n 32 few b, number-most 9 v 10 many c))

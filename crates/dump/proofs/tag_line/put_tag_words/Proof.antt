@@ -1,7 +1,6 @@
 -- `dump::put_tag_words` meets its contract: in each arm the tag's class and number are known, and its words are put in order.
 -- Assumes nothing.
-use Prim.Native.Nat.{_<_}
-use Rattle.dump.proofs.Words.{word, number, last, number-most}
+use Rattle.dump.proofs.Words.{word, last, word-and-two}
 use Rattle.types.specs.Tag.{applicationOf}
 use native.Mathlib.Omega.{arith}
 use mathlib.Core.List.{[], _∷_}
@@ -85,25 +84,15 @@ same-length : tie.Need-same-length
 same-length c = search needs
 
 returns : tie.Need-returns
-returns c = let n = c .before .before .before .before .before .before .before .number2 .result in
-    let v = c .before .before .before .before .before .before .before .before .before .before .before .before .before .before .before .before .before .before .before .args .tag .value in
-    let few : n < 1000 = omega (arith, c .before .before .before .before .before .before .before .number2 .ensures .1) in
-    let many : v < 10000000000 = omega arith in
-    let a = c .before .before .before .before .before .before .put-number .ensures .0 in
-    let b = c .before .before .put-number2 .ensures .0 in
-    (rw (c .before .before .before .before .before .before .before .before .before .before .before .before .before .before .before .number .given .1, ← c .before .before .before .before .before .before .before .number2 .ensures .0) (word (97 ∷ 112 ∷ 112 ∷ 108 ∷ 105 ∷ 99 ∷ 97 ∷ 116 ∷ 105 ∷ 111 ∷ 110 ∷ []) (c .before .before .before .before .before .before .before .before .before .before .before .put-word .ensures .0) (number n a (last v b)) .text), omega (arith, number-most 2 n _ few a, number-most 9 v _ many b))
+returns c = let x = word-and-two (97 ∷ 112 ∷ 112 ∷ 108 ∷ 105 ∷ 99 ∷ 97 ∷ 116 ∷ 105 ∷ 111 ∷ 110 ∷ []) (c .before .before .before .before .before .before .before .number2 .result) (c .before .before .before .before .before .before .before .before .before .before .before .before .before .before .before .before .before .before .before .args .tag .value) (omega (arith, c .before .before .before .before .before .before .before .number2 .ensures .1)) (omega arith) (c .before .before .before .before .before .before .before .before .before .before .before .put-word .ensures .0) (c .before .before .before .before .before .before .put-number .ensures .0) (c .before .before .put-number2 .ensures .0) in
+    (rw (c .before .before .before .before .before .before .before .before .before .before .before .before .before .before .before .number .given .1, ← c .before .before .before .before .before .before .before .number2 .ensures .0) (x .0), omega (arith, x .1))
 
 same-length-2 : tie.Need-same-length-2
 same-length-2 c = search needs
 
 returns-2 : tie.Need-returns-2
-returns-2 c = let n = c .before .before .before .before .before .before .before .before .before .before .before .before .before .before .number3 .given .0 .0 in
-    let v = c .before .before .before .before .before .before .before .before .before .before .before .before .before .before .before .before .before .before .args .tag .value in
-    let few : n < 1000 = omega arith in
-    let many : v < 10000000000 = omega arith in
-    let a = c .before .before .before .before .before .before .put-number3 .ensures .0 in
-    let b = c .before .before .put-number4 .ensures .0 in
-    (rw (c .before .before .before .before .before .before .before .before .before .before .before .before .before .before .number3 .given .1) (word (99 ∷ 111 ∷ 110 ∷ 116 ∷ 101 ∷ 120 ∷ 116 ∷ []) (c .before .before .before .before .before .before .before .before .before .before .put-word2 .ensures .0) (number n a (last v b)) .text), omega (arith, number-most 2 n _ few a, number-most 9 v _ many b))
+returns-2 c = let x = word-and-two (99 ∷ 111 ∷ 110 ∷ 116 ∷ 101 ∷ 120 ∷ 116 ∷ []) (c .before .before .before .before .before .before .before .before .before .before .before .before .before .before .number3 .given .0 .0) (c .before .before .before .before .before .before .before .before .before .before .before .before .before .before .before .before .before .before .args .tag .value) (omega arith) (omega arith) (c .before .before .before .before .before .before .before .before .before .before .put-word2 .ensures .0) (c .before .before .before .before .before .before .put-number3 .ensures .0) (c .before .before .put-number4 .ensures .0) in
+    (rw (c .before .before .before .before .before .before .before .before .before .before .before .before .before .before .number3 .given .1) (x .0), omega (arith, x .1))
 
 same-length-3 : tie.Need-same-length-3
 same-length-3 c = search needs
