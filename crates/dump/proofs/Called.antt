@@ -2,20 +2,19 @@
 -- Assumes nothing.
 use mathlib.Core.Path.{_≡_, refl, _∙_, ap, sym}
 use mathlib.Core.Bool.{Bool, true, false}
-use mathlib.Core.List.{List, [], _∷_, _++_, append-nil}
-use Prim.Native.Nat.{ℕ, zero, suc, _+_, _-_, _≤_, _<_}
+use mathlib.Core.List.{List, [], _∷_, _++_}
+use Prim.Native.Nat.{ℕ, suc, _+_, _-_, _≤_, _<_}
 use native.Mathlib.Nat.{add-zero}
 use native.Mathlib.Omega.{arith}
 use lib.Dec.{ltb, eqb}
-use lib.ListN.{length, take, drop, length-drop}
+use lib.ListN.{length, drop, length-drop}
 use lib.Seq.{drop-drop, drop-length}
 use borrow.Author.Tests.{ltb-true, ltb-false, eqb-true, eqb-false}
-use Rattle.types.specs.Choice.{if}
 use Rattle.types.proofs.Choices.{either}
 use Rattle.dump.specs.Hexadecimal.{textOf}
-use Rattle.dump.specs.Lines.{upTo, End, ends, noLine, endBy, endFrom}
+use Rattle.dump.specs.Lines.{upTo, End, ends, noLine, endFrom}
 use Rattle.dump.specs.Stream.{wholeOn, restOn, lastOf, linesBy, texts, Calls, stop, room, next}
-use Rattle.dump.proofs.Placed.{Placed, NoneEnded, placed, none-ended, text-there}
+use Rattle.dump.proofs.Placed.{placed, none-ended, text-there}
 use Rattle.dump.proofs.Cut.{line-first, line-passed, newline-there, no-whole-line, all-left, line-all}
 
 -- from a place on stands a first line, and the other lines from the next place on

@@ -3,7 +3,7 @@
 use mathlib.Core.Path.{_≡_, refl, _∙_, ap, sym}
 use mathlib.Core.Bool.{Bool, true, false}
 use mathlib.Core.List.{List, [], _∷_, _++_, append-assoc, append-nil}
-use Prim.Native.Nat.{ℕ, zero, suc, _+_, _≤_, _<_}
+use Prim.Native.Nat.{ℕ, suc, _+_, _≤_, _<_}
 use native.Mathlib.Nat.{add-zero}
 use native.Mathlib.Omega.{arith}
 use lib.Dec.{eqb}
@@ -13,7 +13,7 @@ use Rattle.types.specs.Choice.{if}
 use Rattle.types.proofs.Choices.{either}
 use Rattle.dump.specs.Hexadecimal.{textOf}
 use Rattle.dump.specs.Lines.{upTo}
-use Rattle.dump.specs.Stream.{wholeOn, restOn, lastOf, texts}
+use Rattle.dump.specs.Stream.{wholeOn, restOn, texts}
 
 -- how bytes are cut into lines does not depend on how they came
 pub whole-append : (l a b : List ℕ) → wholeOn l (a ++ b) ≡ wholeOn l a ++ wholeOn (restOn l a) b

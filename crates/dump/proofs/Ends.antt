@@ -1,6 +1,6 @@
 -- Where a line ends: at the byte of a place, or behind it.
 -- Assumes nothing.
-use mathlib.Core.Path.{_≡_, refl, _∙_, ap, sym}
+use mathlib.Core.Path.{_≡_, refl, _∙_, ap}
 use mathlib.Core.Bool.{Bool, true, false}
 use mathlib.Core.List.{List, [], _∷_}
 use Prim.Native.Nat.{ℕ, suc, _+_, _≤_, _<_}
@@ -11,7 +11,7 @@ use lib.ListN.{length, drop, getD}
 use lib.Seq.{drop-cons, drop-length}
 use Rattle.types.specs.Choice.{if}
 use Rattle.types.proofs.Choices.{either}
-use Rattle.dump.specs.Lines.{upTo, End, ends, noLine, endFrom}
+use Rattle.dump.specs.Lines.{upTo, ends, noLine, endFrom}
 
 -- the byte at a place ends the line, or is in it
 pub line-step : (xs : List ℕ) (at : ℕ) → at < length xs → upTo (drop at xs) ≡ if (eqb (getD xs at 0) 10) [] (getD xs at 0 ∷ upTo (drop (suc at) xs))

@@ -2,22 +2,20 @@
 -- Assumes nothing.
 use mathlib.Core.Path.{_≡_, refl, _∙_, ap, sym}
 use mathlib.Core.Bool.{Bool, true, false}
-use mathlib.Core.List.{List, [], _∷_, _++_, append-assoc}
-use Prim.Native.Nat.{ℕ, zero, suc, _+_, _≤_, _<_}
-use native.Mathlib.Nat.{zero-add}
+use mathlib.Core.List.{List, append-assoc}
+use Prim.Native.Nat.{ℕ, _+_, _≤_, _<_}
 use native.Mathlib.Omega.{arith}
 use lib.Dec.{ltb, eqb}
 use lib.ListN.{length, take, drop, length-drop}
 use lib.Seq.{sets, sets-eq, length-sets, take-at, drop-drop}
 use borrow.Author.Tests.{lt-ltb, le-ltb, ltb-true, ltb-false, eq-eqb, ne-eqb, eqb-true, eqb-false}
-use Rattle.types.specs.Choice.{if}
 use Rattle.types.specs.Refusal.{amount}
 use Rattle.types.specs.Writing.{over}
 use Rattle.types.proofs.Choices.{either}
 use Rattle.dump.specs.Text.{Wrote}
 use Rattle.dump.specs.Frame.{refusedLine, frameText}
-use Rattle.dump.specs.Hexadecimal.{pairs, leading, textBy, textOf}
-use Rattle.dump.specs.Lines.{upTo, End, ends, noLine, endBy, endFrom, Answer, put, none, refused, Left, left, putFrom}
+use Rattle.dump.specs.Hexadecimal.{leading, textBy, textOf}
+use Rattle.dump.specs.Lines.{upTo, End, ends, noLine, endBy, endFrom, put, none, refused, left, putFrom}
 use Rattle.dump.proofs.Digits.{pairs-of-line, text-by-count, line-behind-pairs, leading-count}
 use Rattle.dump.proofs.Ends.{line-inside}
 

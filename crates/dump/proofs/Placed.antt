@@ -2,11 +2,11 @@
 -- Assumes nothing.
 use mathlib.Core.Path.{_≡_, refl, _∙_, ap, sym}
 use mathlib.Core.Bool.{Bool, true, false}
-use mathlib.Core.List.{List, [], _∷_, _++_}
-use Prim.Native.Nat.{ℕ, suc, _+_, _-_, _≤_, _<_}
+use mathlib.Core.List.{List, _++_}
+use Prim.Native.Nat.{ℕ, _+_, _-_, _≤_, _<_}
 use native.Mathlib.Omega.{arith}
-use lib.Dec.{ltb, eqb}
-use lib.ListN.{length, take, drop, length-append, length-take, length-drop}
+use lib.Dec.{ltb}
+use lib.ListN.{length, take, drop, length-append}
 use lib.Seq.{take-at, drop-at, length-take-le}
 use borrow.Author.Tests.{le-ltb, ltb-true, ltb-false}
 use Rattle.types.specs.Choice.{if}
@@ -14,7 +14,7 @@ use Rattle.types.specs.Refusal.{Carried, amount}
 use Rattle.types.specs.Writing.{over}
 use Rattle.types.proofs.Choices.{either}
 use Rattle.dump.specs.Hexadecimal.{textOf}
-use Rattle.dump.specs.Lines.{upTo, End, ends, noLine, endFrom, Answer, put, none, refused, Left, left, putBy, putFrom}
+use Rattle.dump.specs.Lines.{upTo, End, ends, noLine, endFrom, put, none, refused, Left, left, putBy, putFrom}
 use Rattle.dump.proofs.LineTexts.{ends-there}
 
 -- a text was put

@@ -5,11 +5,11 @@ use mathlib.Core.Bool.{Bool, true, false}
 use mathlib.Core.List.{List, [], _∷_, _++_}
 use Prim.Native.Nat.{ℕ, zero, suc, _+_, _-_, _≤_, _<_}
 use native.Mathlib.Omega.{arith}
-use lib.ListN.{length, take, drop, replicate, length-replicate}
+use lib.ListN.{length, drop, replicate, length-replicate}
 use borrow.Author.Tests.{le-ltb}
 use Rattle.types.specs.Writing.{over}
 use Rattle.dump.specs.Hexadecimal.{textOf}
-use Rattle.dump.specs.Lines.{upTo, End, ends, noLine, endFrom, put, none, left, putFrom, keptOf}
+use Rattle.dump.specs.Lines.{upTo, End, ends, noLine, endFrom, put, left, putFrom, keptOf}
 use Rattle.dump.specs.Stream.{Calls, stop, next, Reading, done, read}
 use Rattle.dump.proofs.LineTexts.{no-line, ends-there}
 

@@ -1,19 +1,18 @@
 -- However an input is cut into pieces, and though only the first 2,953 bytes of a line that has not ended are kept, the text put is that of the whole input.
 -- Assumes nothing.
-use mathlib.Core.Path.{_≡_, refl, _∙_, ap, sym}
+use mathlib.Core.Path.{_≡_, refl, _∙_, ap}
 use mathlib.Core.Bool.{Bool, true, false}
 use mathlib.Core.List.{List, [], _∷_, _++_, append-assoc, append-nil}
-use Prim.Native.Nat.{ℕ, suc, _+_, _-_, _≤_, _<_}
+use Prim.Native.Nat.{ℕ, _+_, _-_, _≤_, _<_}
 use native.Mathlib.Omega.{arith}
 use lib.Dec.{ltb, eqb}
 use lib.ListN.{length, take, drop, length-append, length-drop}
 use lib.Seq.{take-all, length-take-le}
 use borrow.Author.Tests.{lt-ltb, le-ltb, ltb-true, ltb-false}
 use Rattle.types.specs.Choice.{if}
-use Rattle.types.proofs.Choices.{either}
-use Rattle.dump.specs.Hexadecimal.{isFrame, textBy, textOf}
+use Rattle.dump.specs.Hexadecimal.{isFrame, textOf}
 use Rattle.dump.specs.Lines.{keptOf}
-use Rattle.dump.specs.Stream.{wholeOn, restOn, lastOf, linesBy, texts, dump, Calls, Reading, done, read, joined}
+use Rattle.dump.specs.Stream.{wholeOn, restOn, lastOf, linesBy, texts, dump, Reading, done, read, joined}
 use Rattle.dump.proofs.Cut.{whole-append, rest-append, texts-append, all-left, no-newline-taken, no-newline-left, whole-behind, rest-behind}
 use Rattle.dump.proofs.Called.{TextsPut, calls-put}
 

@@ -18,7 +18,7 @@ use Rattle.types.specs.Answer.{Answer, accepted, refused, Outcome, stopped}
 use Rattle.walk.specs.Tag.{Standing, standing, tagAt, paperTagAt}
 use Rattle.walk.specs.declared.tag.TagAt.{TagAt}
 use Rattle.walk.specs.declared.tag.TagAt.the-variants as p
-use Rattle.walk.specs.Walk.{Seen, seen, Walk, more, ended, Step, ends, goes, closingStep, atEnd, stepFrom, turn, walkOn, walkFrom}
+use Rattle.walk.specs.Walk.{Seen, seen, Walk, Step, ends, goes, closingStep, atEnd, stepFrom, turn, walkOn, walkFrom}
 use Rattle.walk.proofs.Unfolds.{unfolds, end-step}
 use Rattle.walk.proofs.Standing.{Goes, Agree, agrees, tag-at-bounds}
 use Rattle.walk.proofs.Nested.{unguarded}

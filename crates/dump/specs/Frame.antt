@@ -9,7 +9,7 @@ use Rattle.types.specs.Tag.{Number, application, context, opening, closing, Tag
 use Rattle.types.specs.Answer.{Answer, accepted, refused, Outcome, passed, stopped}
 use Rattle.headers.specs.Header.{Kind, request, simple, complex, segment, FieldValue, nibbles, number, choice, Header}
 use Rattle.headers.specs.Reading.{headerFrom}
-use Rattle.walk.specs.Walk.{Seen, Walk, walked, walkFrom}
+use Rattle.walk.specs.Walk.{Seen, Walk, walkFrom}
 use Rattle.dump.specs.Text.{decimal, line}
 
 -- "request", "simple", "complex", "segment"

@@ -1,6 +1,6 @@
 -- The line at a place of what was read, the text put for it, and what is kept of a line that has not ended (document 01, "The program").
 -- Assumes nothing.
-use mathlib.Core.Bool.{Bool, true, false}
+use mathlib.Core.Bool.{Bool}
 use mathlib.Core.List.{List, [], _∷_}
 use Prim.Native.Nat.{ℕ, _+_, _-_}
 use lib.Dec.{ltb, eqb}

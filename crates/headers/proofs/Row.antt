@@ -15,7 +15,7 @@ use Rattle.types.specs.Answer.{Answer, accepted, refused, then}
 use Rattle.types.proofs.Choices.{either}
 use Rattle.numbers.specs.Reading.{byteFrom}
 use Rattle.numbers.proofs.Found.{ByteFound, byte-at, behind}
-use Rattle.headers.specs.Header.{Field, twoNibbles, oneNumber, oneChoice, FieldValue, choice}
+use Rattle.headers.specs.Header.{Field, twoNibbles, oneNumber, oneChoice, FieldValue}
 use Rattle.headers.specs.Reading.{told, fieldsFrom}
 use Rattle.headers.specs.Bytes.{Carries, asNibbles, asNumber, asChoice, AreFields, none, more, BreakOff, here, later, UpToChoiceAbove, at, after}
 

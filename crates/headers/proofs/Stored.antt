@@ -1,15 +1,15 @@
 -- The bytes of a header, stored one behind the other, are the header written.
 -- Assumes nothing.
-use mathlib.Core.Path.{_≡_, refl, _∙_, ap, sym}
+use mathlib.Core.Path.{_≡_, refl, _∙_, ap}
 use Prim.Native.Nat.{ℕ, suc, _+_, _≤_, _<_}
 use native.Mathlib.Omega.{arith}
-use mathlib.Core.List.{List, [], _∷_, _++_, append-assoc}
+use mathlib.Core.List.{List, [], _∷_, append-assoc}
 use lib.ListN.{length, take, drop, set}
 use lib.Seq.{sets, sets-eq}
 use borrow.Author.Tests.{lt-ltb, le-ltb}
 use Rattle.types.specs.Refusal.{amount}
 use Rattle.types.specs.Answer.{accepted, refused}
-use Rattle.types.specs.Writing.{Left, left, over, can, writeAnswer, writing}
+use Rattle.types.specs.Writing.{left, can, writeAnswer, writing}
 
 -- bytes stored at k behind a place, k + 1 behind it, and so on
 abbrev storedFrom : ℕ → List ℕ → List ℕ → ℕ → List ℕ

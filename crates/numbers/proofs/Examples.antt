@@ -3,7 +3,7 @@
 use mathlib.Core.Path.{_≡_, refl}
 use Prim.Native.Nat.{ℕ}
 use mathlib.Core.List.{List, [], _∷_}
-use lib.IntN.{ℤ, pos, negsuc}
+use lib.IntN.{pos, negsuc}
 use Rattle.numbers.specs.Integer.{unsignedLength, signedLength, unsignedBytes, signedBytes}
 
 -- unsigned 0 and 256; signed 127, 128, -128 and -129

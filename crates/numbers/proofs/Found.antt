@@ -1,16 +1,16 @@
 -- What was read stands there, and what stands there is read.
 -- Assumes nothing.
 use mathlib.Core.Path.{_≡_, refl, _∙_, ap, sym, subst}
-use Prim.Native.Nat.{ℕ, suc, _+_, _<_, _≤_}
+use Prim.Native.Nat.{ℕ, _+_, _<_, _≤_}
 use native.Mathlib.Nat.{add-zero}
 use native.Mathlib.Numerals.{add-one}
 use native.Mathlib.Omega.{arith}
-use mathlib.Core.List.{List, [], _∷_, _++_}
+use mathlib.Core.List.{List, _∷_, _++_}
 use lib.Dec.{ltb, leb}
 use lib.IntN.{ℤ}
 use lib.ListN.{length, getD, take, drop, length-drop, length-append, take-append-drop}
 use lib.Seq.{getD-drop, drop-cons, drop-drop, drop-at, take-append-seam, length-take-le}
-use borrow.Author.Tests.{lt-ltb, le-ltb, ltb-false, lt-leb, leb-false}
+use borrow.Author.Tests.{le-ltb, ltb-false, lt-leb, leb-false}
 use mathlib.Core.Bool.{Bool, true, false}
 use Rattle.types.specs.Choice.{if}
 use Rattle.types.specs.Refusal.{amount}

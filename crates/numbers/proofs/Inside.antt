@@ -8,7 +8,7 @@ use lib.ListN.{length, take, drop}
 use lib.Dec.{ltb}
 use borrow.Author.Tests.{ltb-false}
 use Rattle.types.specs.Refusal.{amount}
-use Rattle.types.specs.Answer.{Answer, accepted, refused, refusal, then, guarded}
+use Rattle.types.specs.Answer.{Answer, accepted, refused, refusal, then}
 use Rattle.types.specs.Choice.{if}
 use Rattle.types.specs.Writing.{Writable, can, cannot, unless, writeAnswer}
 use Rattle.types.specs.declared.refusal.Refusal.{Refusal}

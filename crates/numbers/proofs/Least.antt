@@ -6,11 +6,11 @@ use mathlib.Core.Bool.{Bool, true, false}
 use Prim.Native.Nat.{ℕ, zero, suc, _+_, _-_, _*_, _/_, _%_, _^_, _<_, _≤_}
 use native.Mathlib.Omega.{arith}
 use native.Mathlib.Decide.{decLt}
-use native.Mathlib.Nat.{add-suc, suc-add, zero-add, eq-or-lt-of-le, pow-le-pow-right, lt-of-lt-of-le, pow-succ'}
+use native.Mathlib.Nat.{add-suc, suc-add, zero-add, eq-or-lt-of-le, pow-le-pow-right, pow-succ'}
 use lib.Count.{leadingZeros, leading-length}
 use lib.Dec.{ltb, lit<}
 use lib.Pow.{pow-mono, pow-add, shl-exact}
-use borrow.Author.Tests.{lt-ltb, le-ltb, ltb-true, ltb-false}
+use borrow.Author.Tests.{lt-ltb, ltb-true, ltb-false}
 use Rattle.types.specs.Choice.{if}
 use Rattle.numbers.specs.Integer.{firstFrom, unsignedLength}
 

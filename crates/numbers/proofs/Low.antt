@@ -11,7 +11,7 @@ use lib.Pow.{pow-add}
 use lib.IntN.{ℤ, pos, negsuc}
 use lib.Signed.{mag}
 use lib.Dec.{lit<}
-use lib.ListN.{length, getD}
+use lib.ListN.{length}
 use Rattle.numbers.specs.Integer.{followedBy, unsignedValue, lowBytes, patternOf, Bytes}
 use Rattle.numbers.proofs.Value.{value-lt}
 

@@ -1,18 +1,16 @@
 -- The content of an integer is the shortest that holds it, and reads back as it. Once, over the length.
 -- Assumes nothing.
-use mathlib.Core.Path.{_≡_, refl, _∙_, ap, sym}
+use mathlib.Core.Path.{_≡_, refl, ap}
 use Prim.Native.Nat.{ℕ, zero, suc, _-_, _*_, _^_, _<_, _≤_}
 use native.Mathlib.Omega.{arith}
 use native.Mathlib.Nat.{pow-succ'}
-use mathlib.Core.List.{List}
 use lib.IntN.{ℤ, pos, negsuc}
 use lib.Signed.{mag}
 use lib.ListN.{length}
 use lib.Dec.{ltb}
 use borrow.Author.Tests.{lt-ltb, le-ltb, ltb-true, ltb-false}
-use Rattle.types.specs.Choice.{if}
 use Rattle.types.proofs.Choices.{either}
-use Rattle.numbers.specs.Integer.{unsignedValue, signedValue, twosComplement, patternOf, lowBytes, unsignedLength, signedLength, unsignedBytes, signedBytes, Holds, Shortest}
+use Rattle.numbers.specs.Integer.{unsignedValue, signedValue, twosComplement, patternOf, unsignedLength, signedLength, unsignedBytes, signedBytes, Shortest}
 use Rattle.numbers.proofs.Value.{value-lt}
 use Rattle.numbers.proofs.Low.{low-bytes-stand, low-bytes-length, low-bytes-are-bytes}
 use Rattle.numbers.proofs.Least.{length-between, length-holds, length-least}

@@ -1,7 +1,7 @@
 // Headers: the kind and the fields as a line names them, and as answers print them.
 use crate::answer::Answer;
-use crate::words::four;
-use crate::words::number;
+use crate::number::four;
+use crate::number::number;
 use headers::Header;
 
 // A header, and where its words end.

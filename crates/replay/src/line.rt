@@ -2,13 +2,13 @@
 ghost use Prim.Native.Nat.{_≤_};
 ghost use lib.ListN.{length};
 use crate::answer::Answer;
+use crate::bytes::bytes;
+use crate::number::number;
 use crate::read::read_asked;
 use crate::read::read_named;
 use crate::reading::answer_of;
 use crate::text::put_answer;
 use crate::words::NOWHERE;
-use crate::words::bytes;
-use crate::words::number;
 use crate::write::write_asked;
 use crate::writing::answer_to;
 

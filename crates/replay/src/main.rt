@@ -3,13 +3,16 @@ ghost use Prim.Native.Nat.{_≤_};
 ghost use lib.ListN.{length};
 
 mod answer;
+mod bytes;
 mod header;
 mod line;
+mod number;
 mod read;
 mod reading;
 mod tag;
 mod text;
 mod value;
+mod value_answer;
 mod words;
 mod write;
 mod writing;
@@ -29,9 +32,9 @@ struct Answered {
     pub waiting: usize,
 }
 
-// How much of an unfinished line is held, how much text waits to be written, and whether the input has ended.
+// How much of an unfinished line is kept, how much text waits to be written, and whether the input has ended.
 struct Turn {
-    pub held: usize,
+    pub kept: usize,
     pub waiting: usize,
     pub ended: bool,
 }
@@ -110,18 +113,18 @@ fn keep(input: &mut [u8], from: usize, end: usize) -> usize
 }
 
 // What is kept of a line that has not ended; of one that fills the whole input a space alone, so that it is no request.
-fn held_of(input: &mut [u8], from: usize, end: usize) -> usize
+fn kept_of(input: &mut [u8], from: usize, end: usize) -> usize
     requires { ⌜ (from ≤ end) × (end ≤ length (now input)) ⌝ }
     ensures { λ r. ⌜ r ≤ length (now (input .exit)) ⌝ }
 {
-    let held = keep(input, from, end);
-    if held == input.len() {
-        if 0 < held {
+    let kept = keep(input, from, end);
+    if kept == input.len() {
+        if 0 < kept {
             input[0] = b' ';
             return 1;
         }
     }
-    held
+    kept
 }
 
 // Answers the last line, where its newline is missing, and writes all the text that waits.
@@ -134,32 +137,32 @@ fn finish(line: &[u8], content: &mut [u8], buf: &mut [u8], text: &mut [u8], befo
     send(text, waiting);
 }
 
-// Reads once behind what is held, and answers the lines that have ended.
+// Reads once behind what is kept, and answers the lines that have ended.
 fn take_turn(
     input: &mut [u8],
-    held: usize,
+    kept: usize,
     content: &mut [u8],
     buf: &mut [u8],
     text: &mut [u8],
     waiting: usize,
 ) -> Turn
-    requires { ⌜ held ≤ length (now input) ⌝ }
-    ensures { λ r. ⌜ r .held ≤ length (now (input .exit)) ⌝ }
+    requires { ⌜ kept ≤ length (now input) ⌝ }
+    ensures { λ r. ⌜ r .kept ≤ length (now (input .exit)) ⌝ }
 {
-    let got = libc::read(0, &mut input[held..]);
-    let count = io::count(got, &input[held..]);
+    let got = libc::read(0, &mut input[kept..]);
+    let count = io::count(got, &input[kept..]);
     if count == 0 {
-        finish(&input[0..held], content, buf, text, waiting);
+        finish(&input[0..kept], content, buf, text, waiting);
         return Turn {
-            held: 0,
+            kept: 0,
             waiting: 0,
             ended: true,
         };
     }
-    let end = held + count;
+    let end = kept + count;
     let answered = answer_lines(&input[0..end], content, buf, text, waiting);
     Turn {
-        held: held_of(input, answered.end, end),
+        kept: kept_of(input, answered.end, end),
         waiting: answered.waiting,
         ended: false,
     }
@@ -167,16 +170,16 @@ fn take_turn(
 
 // Reads and answers until the input ends.
 fn run(input: &mut [u8], content: &mut [u8], buf: &mut [u8], text: &mut [u8]) {
-    let mut held = 0;
+    let mut kept = 0;
     let mut waiting = 0;
     let mut reads = MOST_READS;
     while 0 < reads {
         reads -= 1;
-        let turn = take_turn(input, held, content, buf, text, waiting);
+        let turn = take_turn(input, kept, content, buf, text, waiting);
         if turn.ended {
             return;
         }
-        held = turn.held;
+        kept = turn.kept;
         waiting = turn.waiting;
     }
 }

@@ -1,9 +1,9 @@
 // Which read a line asks for.
+use crate::number::fixed;
+use crate::number::number;
 use crate::tag::tag_number;
 use crate::words::NOWHERE;
-use crate::words::fixed;
 use crate::words::name_at;
-use crate::words::number;
 use crate::words::word_end;
 use types::TagNumber;
 

@@ -3,7 +3,7 @@ use crate::answer::Answer;
 use crate::answer::Shown;
 use crate::header::with_header;
 use crate::read::Read;
-use crate::value::with_value;
+use crate::value_answer::with_value;
 use bodies::BodyRead;
 use headers::HeaderRead;
 use numbers::ByteRead;

@@ -1,8 +1,8 @@
 // A tag's class and number, as a line names them.
 ghost use Prim.Native.Nat.{_≤_};
+use crate::number::number;
 use crate::words::NOWHERE;
 use crate::words::name_at;
-use crate::words::number;
 use crate::words::word_behind;
 use crate::words::word_end;
 use types::ApplicationTagNumber;

@@ -1,20 +1,20 @@
 // Which write a line asks for.
 ghost use Prim.Native.Nat.{_≤_};
 ghost use lib.ListN.{length};
+use crate::bytes::bytes;
 use crate::header::HeaderAsked;
 use crate::header::complex;
 use crate::header::request;
 use crate::header::segment;
 use crate::header::simple;
+use crate::number::context;
+use crate::number::fixed;
+use crate::number::number;
+use crate::number::signed;
 use crate::tag::tag_number;
 use crate::value::value_behind;
 use crate::words::NOWHERE;
-use crate::words::bytes;
-use crate::words::context;
-use crate::words::fixed;
 use crate::words::name_at;
-use crate::words::number;
-use crate::words::signed;
 use crate::words::word_end;
 use headers::Header;
 use tags::ContextTag;

@@ -1,7 +1,7 @@
 -- What is written reads back: every tag that can be carried, and every integer under every tag that its writer takes.
 -- Assumes nothing.
-use mathlib.Core.Path.{_≡_, refl, _∙_, ap, ap₂, sym, subst}
-use Prim.Native.Nat.{ℕ, suc, _+_, _*_, _/_, _%_, _^_, _<_, _≤_}
+use mathlib.Core.Path.{_≡_, _∙_, ap, ap₂, sym, subst}
+use Prim.Native.Nat.{ℕ, _+_, _*_, _/_, _%_, _^_, _<_, _≤_}
 use native.Mathlib.Omega.{arith}
 use native.Mathlib.Decide.{decLt}
 use mathlib.Core.List.{List, [], _∷_, _++_, append-assoc}
@@ -11,7 +11,7 @@ use lib.ListN.{length, drop, length-append}
 use borrow.Author.Tests.{lt-ltb, le-ltb}
 use Rattle.types.specs.Tag.{Number, application, context, opening, closing, Tag, tag}
 use Rattle.types.specs.Answer.{accepted}
-use Rattle.types.specs.Writing.{Left, left, over, writing}
+use Rattle.types.specs.Writing.{left, over}
 use Rattle.numbers.specs.Integer.{lowBytes, unsignedValue, signedValue, unsignedBytes, signedBytes, Shortest}
 use Rattle.numbers.specs.Reading.{unsignedFrom, signedFrom}
 use Rattle.numbers.proofs.Low.{low-bytes-stand, low-bytes-length}
@@ -19,8 +19,8 @@ use Rattle.numbers.proofs.Shortest.{unsigned-shortest, signed-shortest}
 use Rattle.numbers.proofs.Found.{behind, unsigned-at, signed-at}
 use Rattle.numbers.proofs.Wrote.{wrote, written-here, over-length}
 use Rattle.tags.specs.Reading.{tagFrom}
-use Rattle.tags.specs.Header.{Tells, inline, one, two, four, none, IsTag, ofApplication, ofLongContext, ofContext, ofOpening, ofClosing}
-use Rattle.tags.specs.Writing.{lowBits, tagValueBytes, contextBytes, numberBytes, tagBytes, writableTag, tagTo}
+use Rattle.tags.specs.Header.{Tells, inline, one, two, four, IsTag, ofApplication, ofLongContext, ofContext, ofOpening, ofClosing}
+use Rattle.tags.specs.Writing.{lowBits, tagValueBytes, numberBytes, tagBytes, writableTag, tagTo}
 use Rattle.tags.specs.Item.{itemBytes, itemTo}
 use Rattle.tags.proofs.Exactly.{tag-read}
 use Rattle.tags.proofs.Range.{InRange}

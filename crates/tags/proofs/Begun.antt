@@ -1,7 +1,7 @@
 -- A tag whose content is to follow: what is written of it, and what is written where nothing follows.
 -- Assumes nothing.
-use mathlib.Core.Path.{_≡_, refl, _∙_, ap, sym}
-use mathlib.Core.Bool.{Bool, true, false}
+use mathlib.Core.Path.{_≡_, refl, ap, sym}
+use mathlib.Core.Bool.{true}
 use Prim.Native.Nat.{ℕ, _+_, _-_, _≤_, _<_}
 use native.Mathlib.Nat.{add-zero}
 use native.Mathlib.Omega.{arith}
@@ -9,9 +9,8 @@ use mathlib.Core.List.{List, [], _∷_}
 use lib.ListN.{length, set}
 use borrow.Author.Tests.{le-ltb}
 use Rattle.types.specs.Tag.{Tag}
-use Rattle.types.specs.Refusal.{Carried}
 use Rattle.types.specs.Answer.{Answer, accepted, refused}
-use Rattle.types.specs.Writing.{Left, left, over, Writable, can, settled, writeAnswer, writing}
+use Rattle.types.specs.Writing.{left, over, can, settled, writeAnswer, writing}
 use Rattle.tags.specs.Writing.{tagBytes, tagValueAllowed, writableTag, begun, tagTo, tagBefore}
 use Rattle.tags.specs.Held.{oneBefore}
 use Rattle.numbers.proofs.Inside.{Room, write-room}

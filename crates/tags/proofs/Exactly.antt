@@ -15,7 +15,7 @@ use Rattle.types.specs.Answer.{Answer, accepted, refused, then}
 use Rattle.types.proofs.Choices.{either, read-on}
 use Rattle.numbers.specs.Integer.{unsignedValue}
 use Rattle.numbers.specs.Reading.{byteFrom, fixedFrom}
-use Rattle.numbers.proofs.Found.{ByteFound, byte-found, byte-at, FixedFound, fixed-found, fixed-at, behind}
+use Rattle.numbers.proofs.Found.{ByteFound, byte-found, byte-at, fixed-found, fixed-at, behind}
 use Rattle.tags.specs.Reading.{numberFrom, tagValueFrom, tagAfter, tagFrom}
 use Rattle.tags.specs.Header.{Tells, inline, one, two, four, none, IsTag, ofApplication, ofLongContext, ofContext, ofOpening, ofClosing}
 

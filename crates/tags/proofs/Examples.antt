@@ -2,9 +2,8 @@
 -- Assumes nothing.
 use mathlib.Core.Path.{_≡_, refl}
 use Prim.Native.Nat.{ℕ}
-use mathlib.Core.List.{List, [], _∷_, _++_}
-use lib.ListN.{length}
-use lib.IntN.{ℤ, pos, negsuc}
+use mathlib.Core.List.{List, [], _∷_}
+use lib.IntN.{pos, negsuc}
 use Rattle.types.specs.Tag.{application, context, tag}
 use Rattle.numbers.specs.Integer.{unsignedLength, signedLength, unsignedBytes, signedBytes}
 use Rattle.tags.specs.Writing.{tagBytes}

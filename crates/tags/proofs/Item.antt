@@ -4,7 +4,7 @@ use mathlib.Core.Path.{_≡_, refl, _∙_, ap, sym, subst}
 use Prim.Native.Nat.{ℕ, _+_, _-_, _≤_}
 use native.Mathlib.Nat.{add-assoc, zero-add}
 use native.Mathlib.Omega.{arith}
-use mathlib.Core.List.{List, [], _∷_, _++_, append-assoc, append-nil}
+use mathlib.Core.List.{List, [], _++_, append-assoc, append-nil}
 use lib.ListN.{length, take, drop, length-append, length-drop, drop-of-length-le}
 use lib.Seq.{take-at, drop-at, drop-drop, length-take-le, take-all}
 use borrow.Rule.Slice.PartMut.{putMid}
@@ -17,7 +17,7 @@ use Rattle.types.specs.declared.written.Written.the-variants as w
 use Rattle.numbers.proofs.Inside.{Room, write-room}
 use Rattle.numbers.proofs.Wrote.{over-length, write-fits}
 use Rattle.tags.specs.Writing.{tagBytes, writableTag, begun, tagBefore}
-use Rattle.tags.specs.Item.{itemBytes, itemTo}
+use Rattle.tags.specs.Item.{itemTo}
 
 -- content written behind the first bytes of an item, where those were written
 abbrev pub followed : List ℕ → List ℕ → Answer (Unit {0}) → Left

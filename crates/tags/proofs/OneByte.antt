@@ -1,11 +1,9 @@
 -- Tags of one byte: what is held of them.
 -- Assumes nothing.
-use mathlib.Core.Path.{_≡_, refl, _∙_, ap, sym}
-use mathlib.Core.Bool.{true}
-use Prim.Native.Nat.{ℕ, _+_, _*_, _≤_, _<_}
+use mathlib.Core.Path.{_≡_, refl, _∙_}
+use Prim.Native.Nat.{ℕ, _+_, _*_, _≤_}
 use native.Mathlib.Omega.{arith}
-use mathlib.Core.List.{List, [], _∷_, _++_, append-nil}
-use lib.ListN.{getD}
+use mathlib.Core.List.{List, [], _∷_, append-nil}
 use borrow.Author.Tests.{lt-ltb, eq-eqb}
 use Rattle.types.specs.Tag.{Tag, tag, application, context, opening, closing}
 use Rattle.tags.specs.declared.header.Header.{Header}

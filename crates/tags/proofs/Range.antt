@@ -1,15 +1,15 @@
 -- Which tags bytes can carry, and that a tag is read or the bytes run out.
 -- Assumes nothing.
-use mathlib.Core.Path.{_≡_, refl, _∙_, ap, sym, subst}
+use mathlib.Core.Path.{_≡_, refl, subst}
 use Prim.Native.Nat.{ℕ, suc, _+_, _/_, _%_, _^_, _<_, _≤_}
 use native.Mathlib.Omega.{arith}
 use mathlib.Core.Bool.{Bool, true, false}
-use mathlib.Core.List.{List, _∷_, _++_}
+use mathlib.Core.List.{List, _++_}
 use lib.Dec.{ltb, leb, eqb}
 use lib.ListN.{length, drop}
-use borrow.Author.Tests.{le-ltb, ltb-true, ltb-false, leb-true}
+use borrow.Author.Tests.{le-ltb, ltb-true, leb-true}
 use Rattle.types.specs.Choice.{if}
-use Rattle.types.specs.Tag.{Number, application, context, opening, closing, Tag, tag}
+use Rattle.types.specs.Tag.{Number, application, context, opening, closing, Tag}
 use Rattle.types.specs.Refusal.{Carried, amount}
 use Rattle.types.specs.Answer.{Answer, accepted, refused, then}
 use Rattle.types.proofs.Choices.{either, read-on}

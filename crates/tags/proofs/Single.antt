@@ -1,6 +1,6 @@
 -- No two answers of a tag reader are the same on paper, so each promise admits a single one.
 -- Assumes nothing.
-use mathlib.Core.Path.{_≡_, refl, ap}
+use mathlib.Core.Path.{_≡_, ap}
 use Rattle.types.specs.Tag.{Tag}
 use Rattle.types.specs.Refusal.{row}
 use Rattle.types.specs.Answer.{Answer, accepted, refused}

@@ -4,7 +4,7 @@ use Prim.Native.Nat.{ℕ, _/_, _%_, _<_}
 use mathlib.Core.Path.{_≡_}
 use mathlib.Core.List.{List, [], _∷_}
 use lib.ListN.{length}
-use Rattle.types.specs.Tag.{Number, application, context, opening, closing, Tag, tag}
+use Rattle.types.specs.Tag.{application, context, opening, closing, Tag, tag}
 use Rattle.numbers.specs.Integer.{unsignedValue}
 
 -- low bits, the value that they tell, and the bytes that follow for it

@@ -1,7 +1,7 @@
 -- Reading a tag (ASHRAE 135, 20.2.1, as 01 restates it), and what is expected of one.
 -- Assumes nothing.
 use Prim.Native.Nat.{ℕ, _/_, _%_}
-use mathlib.Core.Bool.{Bool, true, false}
+use mathlib.Core.Bool.{Bool, false}
 use mathlib.Core.List.{List}
 use lib.Dec.{ltb, eqb}
 use Rattle.types.specs.Choice.{if}

@@ -7,7 +7,7 @@ use mathlib.Core.List.{List, [], _∷_}
 use mathlib.Core.Option.{Option, none, some}
 use lib.Dec.{ltb, eqb}
 use Rattle.types.specs.Choice.{if}
-use Rattle.types.specs.Tag.{Number, application, context, opening, closing, Tag, tag, numberOf}
+use Rattle.types.specs.Tag.{Number, application, context, opening, closing, tag, numberOf}
 use Rattle.types.specs.Writing.{Left, unwritable, writing}
 use Rattle.tags.specs.Writing.{tagTo}
 use Rattle.tags.specs.Item.{itemTo, numberUnder, booleanByte}

@@ -1,7 +1,6 @@
 -- The eight numbers that tell an answer. The first is 0 where it is accepted, else the refusal's number in 01.
 -- Assumes nothing.
 use Prim.Native.Nat.{ℕ}
-use mathlib.Core.Bool.{Bool, true, false}
 use mathlib.Core.List.{List, [], _∷_}
 use lib.IntN.{ℤ}
 use lib.ListN.{getD}

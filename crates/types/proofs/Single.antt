@@ -6,7 +6,7 @@ use lib.Dec.{eqb}
 use Rattle.types.specs.Choice.{if}
 use Rattle.types.specs.Tag.{Number, application, context, opening, closing, Tag, applicationOf, numberOf, tagOf}
 use Rattle.types.specs.Refusal.{Carried, amount, tagFound, Row, row, table, carriedOf}
-use Rattle.types.specs.Answer.{Answer, accepted, refused, refusal, Outcome, passed, stopped, paperOutcome}
+use Rattle.types.specs.Answer.{Answer, accepted, refused, Outcome, passed, stopped, paperOutcome}
 use Rattle.types.specs.Writing.{paperWritten}
 use Rattle.types.specs.declared.tag.ApplicationTagNumber.{ApplicationTagNumber}
 use Rattle.types.specs.declared.tag.ApplicationTagNumber.the-variants as a

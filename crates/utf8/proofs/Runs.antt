@@ -3,14 +3,13 @@
 use mathlib.Core.Path.{_≡_, refl, ap, _∙_, subst}
 use mathlib.Core.Bool.{Bool, true, false}
 use mathlib.Core.List.{List}
-use Prim.Native.Nat.{ℕ, zero, suc, _+_, _*_, _/_, _%_, _-_, _≤_, _<_}
+use Prim.Native.Nat.{ℕ, zero, suc, _+_, _*_, _-_, _≤_, _<_}
 use native.Mathlib.Omega.{arith}
 use lib.Dec.{ltb}
 use lib.ListN.{length, drop, getD}
 use borrow.Author.Tests.{ltb-true, ltb-false}
-use Rattle.utf8.specs.declared.lead.Lead.the-variants.{Follow}
 use Rattle.utf8.specs.Table.{UTF8-1, UTF8-2, UTF8-3, UTF8-4, UTF8-char}
-use Rattle.utf8.specs.Lead.{tailsOf, asTails, ranges}
+use Rattle.utf8.specs.Lead.{asTails, ranges}
 use Rattle.utf8.specs.Check.{sequenceLength}
 use Rattle.utf8.specs.Runs.{PlainTo, LowBytes, eightOf}
 use Rattle.utf8.proofs.Places.{checkAt, sequence-leads}

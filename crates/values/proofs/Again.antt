@@ -3,25 +3,21 @@
 use mathlib.Core.Path.{_≡_, refl, _∙_, ap, ap₂, sym, subst}
 use mathlib.Core.Logic.{_↔_}
 use mathlib.Core.Bool.{Bool, true, false}
-use Prim.Native.Nat.{ℕ, zero, suc, _+_, _-_, _*_, _/_, _%_, _<_, _≤_}
-use native.Mathlib.Nat.{zero-add}
+use Prim.Native.Nat.{ℕ, zero, suc, _+_, _-_, _*_, _/_, _%_, _≤_}
 use native.Mathlib.Omega.{arith}
 use mathlib.Core.List.{List, [], _∷_, _++_}
 use lib.Dec.{ltb}
-use lib.ListN.{length, getD, take, drop, length-append, List·getD-append}
-use lib.Seq.{take-at, drop-at, take-append-seam}
+use lib.ListN.{length, take, drop}
+use lib.Seq.{take-append-seam}
 use lib.Ieee.{binary32, binary64, toBits, ofBits}
 use Rattle.types.specs.Tag.{application, Tag, tag}
-use Rattle.types.specs.Answer.{accepted}
 use Rattle.numbers.specs.Integer.{lowBytes, unsignedValue, signedValue, unsignedBytes, signedBytes, Bytes}
 use Rattle.numbers.specs.Reading.{partAt, bytesIn}
 use Rattle.numbers.proofs.Low.{low-bytes-of-value}
 use Rattle.numbers.proofs.Found.{behind}
-use Rattle.tags.specs.Reading.{tagFrom}
-use Rattle.tags.specs.Header.{IsTag}
 use Rattle.tags.specs.Writing.{tagBytes}
 use Rattle.tags.specs.Item.{booleanByte}
-use Rattle.tags.proofs.Exactly.{tag-read}
+use Rattle.tags.proofs.OneTag.{one-tag}
 use Rattle.tags.proofs.Back.{header-is-tag}
 use Rattle.values.specs.Value.{Value, boolean, real, double, onDate, atTime, objectId, characterString, octetString, enumerated, bitString, unsignedInt, signedInt}
 use Rattle.values.specs.Writing.{valueBytes}

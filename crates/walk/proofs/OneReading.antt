@@ -1,14 +1,14 @@
 -- No string has two readings: the bytes of a list of items tell its tags, each with its place and depth, for strings of any length.
 -- Assumes nothing.
 use mathlib.Core.Path.{_≡_, refl, _∙_, ap, sym, subst}
-use Prim.Native.Nat.{ℕ, suc, _+_, _-_, _≤_}
+use Prim.Native.Nat.{ℕ, suc, _+_, _-_}
 use native.Mathlib.Omega.{arith}
 use mathlib.Core.List.{List, [], _∷_, _++_, append-assoc}
 use lib.ListN.{length, length-append}
 use Rattle.types.specs.Tag.{Number, application, context, opening, closing, Tag, tag}
 use Rattle.tags.specs.Header.{IsTag}
 use Rattle.tags.proofs.Exactly.{tag-length}
-use Rattle.tags.proofs.OneTag.{OneTag, one-tag, same-front}
+use Rattle.tags.proofs.OneTag.{one-tag, same-front}
 use Rattle.bodies.specs.Item.{contentLength}
 use Rattle.walk.specs.Walk.{Seen, seen}
 use Rattle.walk.specs.Grammar.{Plain, Items}

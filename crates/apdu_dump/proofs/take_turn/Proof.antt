@@ -2,8 +2,7 @@
 -- Assumes nothing.
 use borrow.Author.Needs.{needs}
 use native.Mathlib.Omega.{arith}
-use Prim.Native.Nat.{ℕ, _+_, _≤_}
-use lib.ListN.{length, length-take}
+use lib.ListN.{length-take}
 use Rattle.dump.proofs.Moved.{kept-short}
 use Rattle.apdu_dump.proofs.take_turn.Statement.{statement}
 use Rattle.apdu_dump.proofs.take_turn.Tie as tie

@@ -1,4 +1,4 @@
--- `run` is safe and ends: what is held is within the input, no call changes a length, and the reads that are left fall.
+-- `run` is safe and ends: what is kept is within the input, no call changes a length, and the reads that are left fall.
 -- Assumes nothing.
 use borrow.Author.Needs.{needs}
 use mathlib.Core.Path.{_≡_}
@@ -8,10 +8,10 @@ use Rattle.replay.proofs.run.Statement.{statement}
 use Rattle.replay.proofs.run.Tie as tie
 
 abbrev Inv-loop : tie.InvT-loop
-Inv-loop input₀ content₀ buf₀ text₀ held₀ waiting₀ reads₀ input content buf text held waiting reads = (held ≤ length input) × (length input ≡ length input₀) × (length content ≡ length content₀) × (length buf ≡ length buf₀) × (length text ≡ length text₀)
+Inv-loop input₀ content₀ buf₀ text₀ kept₀ waiting₀ reads₀ input content buf text kept waiting reads = (kept ≤ length input) × (length input ≡ length input₀) × (length content ≡ length content₀) × (length buf ≡ length buf₀) × (length text ≡ length text₀)
 
 abbrev μ-loop : tie.MeasureT-loop
-μ-loop input₀ content₀ buf₀ text₀ held₀ waiting₀ reads₀ input content buf text held waiting reads = reads
+μ-loop input₀ content₀ buf₀ text₀ kept₀ waiting₀ reads₀ input content buf text kept waiting reads = reads
 
 loop-holds : tie.Need-loop-holds Inv-loop μ-loop
 loop-holds c = search needs

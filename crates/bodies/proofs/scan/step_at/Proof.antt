@@ -2,14 +2,13 @@
 -- Assumes nothing.
 use borrow.Author.Needs.{needs}
 use native.Mathlib.Omega.{arith}
-use mathlib.Core.Path.{_≡_, sym, ap, _∙_}
-use Prim.Native.Nat.{_≤_, _<_}
+use mathlib.Core.Path.{sym, ap, _∙_}
+use Prim.Native.Nat.{_≤_}
 use lib.ListN.{length}
 use borrow.Author.Tests.{le-ltb}
 use Rattle.tags.specs.Reading.{paperTag}
 use Rattle.tags.proofs.Exactly.{moves-on}
-use Rattle.bodies.specs.Plain.{plainLength}
-use Rattle.bodies.specs.Scan.{onward, stepFrom}
+use Rattle.bodies.specs.Scan.{stepFrom}
 use Rattle.bodies.proofs.Plain.{plain-step, end-step}
 use Rattle.bodies.proofs.scan.step_at.Statement.{statement}
 use Rattle.bodies.proofs.scan.step_at.Tie as tie

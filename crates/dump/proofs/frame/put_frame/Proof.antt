@@ -2,12 +2,12 @@
 -- Assumes nothing.
 use Rattle.dump.proofs.Puts.{then}
 use Rattle.dump.specs.Frame.{frameText}
-use Rattle.headers.specs.Reading.{headerFrom, paperHeader}
+use Rattle.headers.specs.Reading.{paperHeader}
 use Rattle.headers.specs.Header.{headerOf}
 use Rattle.headers.proofs.Exactly.{moves-on}
-use Rattle.types.specs.Answer.{accepted, refusal}
+use Rattle.types.specs.Answer.{refusal}
 use native.Mathlib.Omega.{arith}
-use mathlib.Core.Path.{_≡_, sym, ap, _∙_}
+use mathlib.Core.Path.{sym, ap, _∙_}
 use borrow.Author.Needs.{needs}
 use Rattle.dump.proofs.frame.put_frame.Statement.{statement}
 use Rattle.dump.proofs.frame.put_frame.Tie as tie

@@ -2,8 +2,7 @@
 -- Assumes nothing.
 use borrow.Author.Needs.{needs}
 use native.Mathlib.Omega.{arith}
-use Prim.Native.Nat.{ℕ, _+_, _-_, _≤_, _<_}
-use mathlib.Core.Path.{_≡_}
+use Prim.Native.Nat.{_-_}
 use lib.ListN.{length}
 use Rattle.dump.proofs.Decoding.{Decoding, none-decoded, one-more-decoded, no-first-digit, no-second-digit, none-left, all-decoded}
 use Rattle.dump.proofs.hexadecimal.decode.Statement.{statement}

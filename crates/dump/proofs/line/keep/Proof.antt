@@ -2,8 +2,8 @@
 -- Assumes nothing.
 use borrow.Author.Needs.{needs}
 use native.Mathlib.Omega.{arith}
-use Prim.Native.Nat.{ℕ, _+_, _-_, _≤_, _<_}
-use mathlib.Core.Path.{_≡_, refl, ap}
+use Prim.Native.Nat.{_-_, _≤_}
+use mathlib.Core.Path.{_≡_, refl}
 use lib.ListN.{length, take, drop, length-set}
 use Rattle.dump.proofs.Moved.{one-more-moved, rest-unmoved, kept-all, none-kept-past-the-end, none-kept-backwards}
 use Rattle.dump.proofs.line.keep.Statement.{statement}

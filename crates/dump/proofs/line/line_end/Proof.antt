@@ -3,9 +3,9 @@
 use borrow.Author.Needs.{needs}
 use native.Mathlib.Omega.{arith}
 use native.Mathlib.Numerals.{add-one}
-use Prim.Native.Nat.{ℕ, _+_, _-_, _≤_, _<_}
+use Prim.Native.Nat.{_+_, _-_, _≤_}
 use mathlib.Core.Path.{_≡_, refl, _∙_, ap}
-use mathlib.Core.List.{[], _∷_}
+use mathlib.Core.List.{_∷_}
 use lib.ListN.{length, drop, getD}
 use borrow.Author.Tests.{ne-eqb, not-true, not-false}
 use Rattle.dump.specs.Lines.{upTo}

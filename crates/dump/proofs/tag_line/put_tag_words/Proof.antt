@@ -1,7 +1,6 @@
 -- `dump::put_tag_words` meets its contract: in each arm the tag's class and number are known, and its words are put in order.
 -- Assumes nothing.
 use Rattle.dump.proofs.Words.{word, last, word-and-two}
-use Rattle.types.specs.Tag.{applicationOf}
 use native.Mathlib.Omega.{arith}
 use mathlib.Core.List.{[], _∷_}
 use borrow.Author.Needs.{needs}

@@ -7,7 +7,7 @@ use lib.ListN.{length, length-append}
 use native.Mathlib.Omega.{arith}
 use Prim.Native.Nat.{_+_, _/_, _%_, _^_}
 use mathlib.Core.List.{[], _∷_}
-use mathlib.Core.Path.{_≡_, refl, ap}
+use mathlib.Core.Path.{refl, ap}
 use borrow.Author.Needs.{needs}
 use Prim.Native.Nat.{ℕ, _<_}
 use borrow.Fn.Kinds.{In}

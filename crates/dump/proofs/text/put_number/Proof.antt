@@ -6,7 +6,6 @@ use Rattle.dump.specs.Text.{decimal}
 use lib.ListN.{length, length-set}
 use native.Mathlib.Omega.{arith}
 use Prim.Native.Nat.{_+_, _/_, _^_, _<_, _≤_}
-use mathlib.Core.List.{[], _∷_}
 use mathlib.Core.Path.{refl}
 use borrow.Author.Needs.{needs}
 use Rattle.dump.proofs.text.put_number.Statement.{statement}

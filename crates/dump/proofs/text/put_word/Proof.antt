@@ -1,18 +1,16 @@
 -- `dump::put_word` meets its contract: after so many turns as many bytes are stored, and the rest of the word is still to come.
 -- Assumes nothing.
 use lib.Seq.{sets, drop-cons, drop-length}
-use lib.ListN.{length, drop, getD, set, length-set, length-drop, drop-of-length-le}
+use lib.ListN.{length, drop, length-set}
 use native.Mathlib.Nat.{add-zero, add-suc}
 use native.Mathlib.Numerals.{add-one}
 use native.Mathlib.Omega.{arith}
-use Prim.Native.Nat.{ℕ, suc, _+_, _-_, _≤_, _<_}
-use mathlib.Core.List.{List, []}
-use mathlib.Core.Path.{_≡_, refl, _∙_, ap, sym}
+use Prim.Native.Nat.{_+_, _-_, _≤_, _<_}
+use mathlib.Core.List.{[]}
+use mathlib.Core.Path.{_≡_, refl, _∙_, sym}
 use borrow.Author.Needs.{needs}
 use Rattle.dump.proofs.text.put_word.Statement.{statement}
 use Rattle.dump.proofs.text.put_word.Tie as tie
-use Rattle.dump.proofs.text.put_word.Reads as reads
-use Rattle.dump.proofs.text.put_word.Lts as lts
 
 abbrev Inv-loop : tie.InvT-loop
 Inv-loop out₀ at word i₀ out i = (i ≤ length word) × (length out ≡ length out₀) × (sets out₀ at word ≡ sets out (at + i) (drop i word))

@@ -1,7 +1,6 @@
 -- `headers::request` meets its contract: nibbles and choice are tested in their order, and then its four bytes are written.
 -- Assumes nothing.
 use mathlib.Core.Path.{sym}
-use native.Mathlib.Omega.{arith}
 use lib.ListN.{length}
 use borrow.Author.Tests.{lt-ltb, le-ltb}
 use Rattle.types.specs.Writing.{writeAnswer, writing}

@@ -8,7 +8,7 @@ use mir.Syntax.{w64}
 use mir.Val.{SFits, toZ}
 use mir.ValLaws.{toZ-ofZ, toZ-pos}
 use Prim.Native.Nat.{ℕ, _-_, _+_, _*_, _%_, _^_, _<_, _≤_}
-use lib.IntN.{pos, negsuc, _-ℤ_}
+use lib.IntN.{negsuc, _-ℤ_}
 use native.Mathlib.Nat.{pow-le-pow-right, one-le-pow}
 use lib.Dec.{lit<}
 use Rattle.numbers.proofs.Flip.{flip-pos}

@@ -2,7 +2,7 @@
 -- Assumes nothing.
 use borrow.Author.Needs.{needs}
 use native.Mathlib.Omega.{arith}
-use mathlib.Core.Path.{_≡_, sym}
+use mathlib.Core.Path.{sym}
 use lib.Count.{leading-le}
 use Rattle.numbers.specs.Integer.{unsignedLength}
 use Rattle.numbers.proofs.Least.{length-between, length-by-zeros}

@@ -2,11 +2,10 @@
 -- Assumes nothing.
 use borrow.Author.Needs.{needs}
 use native.Mathlib.Omega.{arith}
-use mathlib.Core.Path.{_≡_, refl, sym, ap, _∙_}
-use Prim.Native.Nat.{_≤_, _-_, _+_}
-use lib.ListN.{length}
+use mathlib.Core.Path.{_≡_, sym, ap, _∙_}
+use Prim.Native.Nat.{_-_}
 use Rattle.types.specs.Answer.{accepted}
-use Rattle.numbers.specs.Reading.{Part, partAt, sliceFrom, partOf, paperSlice}
+use Rattle.numbers.specs.Reading.{partAt, sliceFrom, partOf, paperSlice}
 use Rattle.numbers.proofs.Inside.{Inside, slice-inside}
 use Rattle.numbers.proofs.reading.part.Statement.{statement}
 use Rattle.numbers.proofs.reading.part.Tie as tie

@@ -6,7 +6,7 @@ use Prim.Native.Nat.{_+_, _≤_}
 use lib.ListN.{length}
 use Rattle.types.specs.Answer.{accepted}
 use Rattle.types.specs.Writing.{can, writeAnswer, writing, paperWritten}
-use Rattle.numbers.proofs.Inside.{Room, write-room}
+use Rattle.numbers.proofs.Inside.{write-room}
 use Rattle.numbers.proofs.writing.extend_from_slice.Statement.{statement}
 use Rattle.numbers.proofs.writing.extend_from_slice.Tie as tie
 

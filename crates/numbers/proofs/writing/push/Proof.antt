@@ -4,11 +4,10 @@ use borrow.Author.Needs.{needs}
 use native.Mathlib.Omega.{arith}
 use mathlib.Core.Path.{_≡_, sym, ap, _∙_}
 use Prim.Native.Nat.{_+_, _≤_}
-use mathlib.Core.List.{[], _∷_}
 use lib.ListN.{length}
 use Rattle.types.specs.Answer.{accepted}
 use Rattle.types.specs.Writing.{can, writeAnswer, writing, left, paperWritten}
-use Rattle.numbers.proofs.Inside.{Room, write-room}
+use Rattle.numbers.proofs.Inside.{write-room}
 use Rattle.numbers.proofs.Over.{one-replaced}
 use Rattle.numbers.proofs.writing.push.Statement.{statement}
 use Rattle.numbers.proofs.writing.push.Tie as tie

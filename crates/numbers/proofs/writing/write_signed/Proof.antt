@@ -3,17 +3,16 @@
 use borrow.Author.Needs.{needs}
 use native.Mathlib.Omega.{arith}
 use mathlib.Core.Path.{_≡_, sym, ap, _∙_}
-use Prim.Native.Nat.{ℕ, _+_, _*_, _^_, _<_, _≤_}
+use Prim.Native.Nat.{ℕ}
 use lib.ListN.{length}
-use lib.Signed.{mag}
 use mir.Syntax.{w64}
 use mir.Val.{toZ, ofZ}
 use mir.ValLaws.{toZ-ofZ}
 use Rattle.types.specs.Answer.{accepted}
 use Rattle.types.specs.Writing.{can, writeAnswer, writing, paperWritten}
 use Rattle.numbers.specs.Integer.{lowBytes, patternOf, signedLength, signedBytes}
-use Rattle.numbers.proofs.Inside.{Room, write-room}
-use Rattle.numbers.proofs.Low.{low-bytes-length, low-bytes-of-pattern}
+use Rattle.numbers.proofs.Inside.{write-room}
+use Rattle.numbers.proofs.Low.{low-bytes-of-pattern}
 use Rattle.numbers.proofs.Shortest.{signed-holds, signed-between, signed-length}
 use Rattle.numbers.proofs.writing.write_signed.Statement.{statement}
 use Rattle.numbers.proofs.writing.write_signed.Tie as tie

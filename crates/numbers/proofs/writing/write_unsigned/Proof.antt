@@ -2,12 +2,12 @@
 -- Assumes nothing.
 use borrow.Author.Needs.{needs}
 use mathlib.Core.Path.{_≡_, sym, ap, _∙_}
-use Prim.Native.Nat.{ℕ, _+_, _≤_}
+use Prim.Native.Nat.{ℕ}
 use lib.ListN.{length}
 use Rattle.types.specs.Answer.{accepted}
 use Rattle.types.specs.Writing.{can, writeAnswer, writing, paperWritten}
 use Rattle.numbers.specs.Integer.{lowBytes, unsignedBytes}
-use Rattle.numbers.proofs.Inside.{Room, write-room}
+use Rattle.numbers.proofs.Inside.{write-room}
 use Rattle.numbers.proofs.Low.{low-bytes-length}
 use Rattle.numbers.proofs.writing.write_unsigned.Statement.{statement}
 use Rattle.numbers.proofs.writing.write_unsigned.Tie as tie

@@ -2,9 +2,8 @@
 -- Assumes nothing.
 use borrow.Author.Needs.{needs}
 use native.Mathlib.Omega.{arith}
-use mathlib.Core.Path.{_≡_, refl, _∙_, ap, sym}
+use mathlib.Core.Path.{_≡_, refl, _∙_, sym}
 use lib.ListN.{length}
-use Rattle.types.specs.Tag.{numberOf}
 use Rattle.numbers.specs.Integer.{unsignedBytes}
 use Rattle.numbers.proofs.Shortest.{unsigned-length}
 use Rattle.tags.proofs.Item.{RoomFor, begun-room, item-written, item-refused}

@@ -1,6 +1,6 @@
 -- `utf8::by_eight` meets its contract: each turn passes eight bytes below 128 more.
 -- Assumes nothing.
-use Prim.Native.Nat.{_+_, _-_, _≤_}
+use Prim.Native.Nat.{_-_, _≤_}
 use native.Mathlib.Omega.{arith}
 use borrow.Author.Tests.{not-false}
 use lib.ListN.{length}

@@ -1,6 +1,6 @@
 -- `utf8::one_by_one` meets its contract: each turn passes one byte below 128 more.
 -- Assumes nothing.
-use Prim.Native.Nat.{_+_, _-_, _≤_}
+use Prim.Native.Nat.{_-_, _≤_}
 use native.Mathlib.Omega.{arith}
 use lib.ListN.{length}
 use Rattle.utf8.specs.Runs.{PlainTo}

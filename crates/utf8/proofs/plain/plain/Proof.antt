@@ -2,7 +2,6 @@
 -- Assumes nothing.
 use borrow.Author.Tests.{ltb-true}
 use Rattle.utf8.proofs.Runs.{untrue}
-use borrow.Author.Needs.{needs}
 use Rattle.utf8.proofs.plain.plain.Statement.{statement}
 use Rattle.utf8.proofs.plain.plain.Tie as tie
 

@@ -1,10 +1,10 @@
--- `held_of` meets its contract: a store changes no length.
+-- `kept_of` meets its contract: a store changes no length.
 -- Assumes nothing.
 use native.Mathlib.Omega.{arith}
 use lib.ListN.{length-set}
 use borrow.Author.Needs.{needs}
-use Rattle.replay.proofs.held_of.Statement.{statement}
-use Rattle.replay.proofs.held_of.Tie as tie
+use Rattle.replay.proofs.kept_of.Statement.{statement}
+use Rattle.replay.proofs.kept_of.Tie as tie
 
 keep-requires : tie.Need-keep-requires
 keep-requires c κs = search needs
@@ -30,8 +30,8 @@ same-length-3 c = search needs
 returns-3 : tie.Need-returns-3
 returns-3 c = search needs
 
-pub held-of-spec : {M : Type 1} → statement M
-held-of-spec =
+pub kept-of-spec : {M : Type 1} → statement M
+kept-of-spec =
     tie.close
     (tie.spec
     keep-requires

@@ -5,8 +5,8 @@ use native.Mathlib.Omega.{arith}
 use Prim.Native.Nat.{_-_, _*_, _<_, _≤_}
 use native.Mathlib.Nat.{le-div-iff-mul-le}
 use lib.ListN.{length}
-use Rattle.replay.proofs.words.digits.Statement.{statement}
-use Rattle.replay.proofs.words.digits.Tie as tie
+use Rattle.replay.proofs.number.digits.Statement.{statement}
+use Rattle.replay.proofs.number.digits.Tie as tie
 
 abbrev Inv-loop : tie.InvT-loop
 Inv-loop base most line start value₀ at₀ value at = value ≤ most

@@ -8,8 +8,8 @@ use mir.ValLaws.{toZ-pos}
 use lib.IntN.{negsuc}
 use Rattle.numbers.proofs.Flip.{flip-pos}
 use borrow.Author.Needs.{needs}
-use Rattle.replay.proofs.words.negative.Statement.{statement}
-use Rattle.replay.proofs.words.negative.Tie as tie
+use Rattle.replay.proofs.number.negative.Statement.{statement}
+use Rattle.replay.proofs.number.negative.Tie as tie
 
 small : (c : tie.After-struct-known2) → SFits w64 (negsuc (c .before .before .before .args .found .value - 1))
 small c = record { sfits = omega arith }

@@ -5,8 +5,8 @@ use mathlib.Core.Path.{_≡_}
 use Prim.Native.Nat.{_-_, _≤_}
 use lib.ListN.{length, length-set}
 use native.Mathlib.Omega.{arith}
-use Rattle.replay.proofs.words.pairs.Statement.{statement}
-use Rattle.replay.proofs.words.pairs.Tie as tie
+use Rattle.replay.proofs.bytes.pairs.Statement.{statement}
+use Rattle.replay.proofs.bytes.pairs.Tie as tie
 
 abbrev Inv-loop : tie.InvT-loop
 Inv-loop line start buf₀ count₀ at₀ buf count at = (count ≤ length buf) × (length buf ≡ length buf₀)
