@@ -1,4 +1,5 @@
 pub mod Patterns
+pub mod Found
 pub mod Exactly
 pub mod Single
 pub mod Examples
