@@ -1,10 +1,12 @@
 // Values written at a place of a lent buffer.
 ghost use mathlib.Core.Path.{_≡_};
-ghost use mathlib.Core.List.{_∷_};
-ghost use Prim.Native.Nat.{_+_, _*_, _≤_};
+ghost use mathlib.Core.List.{_∷_, []};
+ghost use Prim.Native.Nat.{_+_, _-_, _*_, _≤_};
 ghost use lib.ListN.{length};
+ghost use lib.Ieee.{binary32, binary64, toBits};
 ghost use Rattle.types.specs.Tag.{application, applicationOf, tag};
 ghost use Rattle.types.specs.Writing.{paperWritten, can, left, over, writing};
+ghost use Rattle.numbers.specs.Integer.{lowBytes};
 ghost use Rattle.tags.specs.Item.{itemTo, booleanByte};
 ghost use Rattle.tags.specs.Writing.{tagTo};
 ghost use Rattle.values.specs.Value.{valueOf};
@@ -14,6 +16,9 @@ use crate::bytes::four_bytes;
 use crate::float::double_bits;
 use crate::float::real_bits;
 use crate::value::ApplicationDataValue;
+use crate::value::Date;
+use crate::value::ObjectId;
+use crate::value::Time;
 use crate::writable::writable;
 use types::ApplicationTagNumber;
 use types::Outcome;
@@ -48,36 +53,11 @@ fn write(value: ApplicationDataValue, content: &[u8], buf: &mut [u8], place: usi
 {
     match value {
         ApplicationDataValue::Boolean(b) => boolean(b, buf, place),
-        ApplicationDataValue::Real(x) => four(
-            ApplicationTagNumber::Real,
-            four_bytes(real_bits(x)),
-            buf,
-            place,
-        ),
-        ApplicationDataValue::Double(x) => eight(
-            ApplicationTagNumber::Real,
-            eight_bytes(double_bits(x)),
-            buf,
-            place,
-        ),
-        ApplicationDataValue::Date(d) => four(
-            ApplicationTagNumber::Date,
-            [(d.year - 1900) as u8, d.month, d.day, d.wday],
-            buf,
-            place,
-        ),
-        ApplicationDataValue::Time(t) => four(
-            ApplicationTagNumber::Time,
-            [t.hour, t.minute, t.second, t.hundredths],
-            buf,
-            place,
-        ),
-        ApplicationDataValue::ObjectId(id) => four(
-            ApplicationTagNumber::ObjectId,
-            four_bytes(id_number(id.object_type, id.instance)),
-            buf,
-            place,
-        ),
+        ApplicationDataValue::Real(x) => real(x, buf, place),
+        ApplicationDataValue::Double(x) => double(x, buf, place),
+        ApplicationDataValue::Date(d) => date(d, buf, place),
+        ApplicationDataValue::Time(t) => time(t, buf, place),
+        ApplicationDataValue::ObjectId(id) => object_id(id, buf, place),
         ApplicationDataValue::CharacterString { place: _, len: _ } => prefixed(
             ApplicationTagNumber::CharacterString,
             0,
@@ -85,12 +65,9 @@ fn write(value: ApplicationDataValue, content: &[u8], buf: &mut [u8], place: usi
             buf,
             place,
         ),
-        ApplicationDataValue::OctetString { place: _, len: _ } => plain(
-            ApplicationTagNumber::OctetString,
-            content,
-            buf,
-            place,
-        ),
+        ApplicationDataValue::OctetString { place: _, len: _ } => {
+            plain(ApplicationTagNumber::OctetString, content, buf, place)
+        }
         ApplicationDataValue::Enumerated(x) => tags::encode_application_enumerated(x, buf, place),
         ApplicationDataValue::BitString {
             unused_bits,
@@ -106,14 +83,6 @@ fn write(value: ApplicationDataValue, content: &[u8], buf: &mut [u8], place: usi
         ApplicationDataValue::UnsignedInt(x) => tags::encode_application_unsigned(x, buf, place),
         ApplicationDataValue::SignedInt(x) => tags::encode_application_signed(x, buf, place),
     }
-}
-
-// An identifier in one number.
-fn id_number(object_type: u16, instance: u32) -> u32
-    requires { ⌜ («object_type» ≤ 1023) × (instance ≤ 4194303) ⌝ }
-    ensures { λ r. ⌜ r ≡ «object_type» * 4194304 + instance ⌝ }
-{
-    object_type as u32 * 4194304 + instance
 }
 
 // Writes a Boolean, which is its tag alone.
@@ -138,18 +107,51 @@ fn boolean_value(value: bool) -> u32
     if value { 1 } else { 0 }
 }
 
-// Writes an item with four bytes of content.
-fn four(name: ApplicationTagNumber, bytes: [u8; 4], buf: &mut [u8], place: usize) -> Written
-    ensures { λ r. ⌜ left (paperWritten r) (now (buf .exit)) ≡ itemTo (application (applicationOf name)) bytes (now (buf .entry)) place ⌝ }
+// Writes a real.
+fn real(value: f32, buf: &mut [u8], place: usize) -> Written
+    ensures { λ r. ⌜ left (paperWritten r) (now (buf .exit)) ≡ itemTo (application 4) (lowBytes 4 (toBits binary32 value)) (now (buf .entry)) place ⌝ }
 {
-    plain(name, &bytes, buf, place)
+    let bytes = four_bytes(real_bits(value));
+    plain(ApplicationTagNumber::Real, &bytes, buf, place)
 }
 
-// Writes an item with eight bytes of content.
-fn eight(name: ApplicationTagNumber, bytes: [u8; 8], buf: &mut [u8], place: usize) -> Written
-    ensures { λ r. ⌜ left (paperWritten r) (now (buf .exit)) ≡ itemTo (application (applicationOf name)) bytes (now (buf .entry)) place ⌝ }
+// Writes a double, which stands under the real's tag.
+fn double(value: f64, buf: &mut [u8], place: usize) -> Written
+    ensures { λ r. ⌜ left (paperWritten r) (now (buf .exit)) ≡ itemTo (application 4) (lowBytes 8 (toBits binary64 value)) (now (buf .entry)) place ⌝ }
 {
-    plain(name, &bytes, buf, place)
+    let bytes = eight_bytes(double_bits(value));
+    plain(ApplicationTagNumber::Real, &bytes, buf, place)
+}
+
+// Writes a date whose year a byte tells.
+fn date(value: Date, buf: &mut [u8], place: usize) -> Written
+    requires { ⌜ (1900 ≤ value .year) × (value .year ≤ 2155) ⌝ }
+    ensures { λ r. ⌜ left (paperWritten r) (now (buf .exit)) ≡ itemTo (application 10) ((value .year - 1900) ∷ value .month ∷ value .day ∷ value .wday ∷ []) (now (buf .entry)) place ⌝ }
+{
+    let bytes = [
+        (value.year - 1900) as u8,
+        value.month,
+        value.day,
+        value.wday,
+    ];
+    plain(ApplicationTagNumber::Date, &bytes, buf, place)
+}
+
+// Writes a time.
+fn time(value: Time, buf: &mut [u8], place: usize) -> Written
+    ensures { λ r. ⌜ left (paperWritten r) (now (buf .exit)) ≡ itemTo (application 11) (value .hour ∷ value .minute ∷ value .second ∷ value .hundredths ∷ []) (now (buf .entry)) place ⌝ }
+{
+    let bytes = [value.hour, value.minute, value.second, value.hundredths];
+    plain(ApplicationTagNumber::Time, &bytes, buf, place)
+}
+
+// Writes an identifier that fits ten bits and 22.
+fn object_id(value: ObjectId, buf: &mut [u8], place: usize) -> Written
+    requires { ⌜ (value .«object_type» ≤ 1023) × (value .instance ≤ 4194303) ⌝ }
+    ensures { λ r. ⌜ left (paperWritten r) (now (buf .exit)) ≡ itemTo (application 12) (lowBytes 4 (value .«object_type» * 4194304 + value .instance)) (now (buf .entry)) place ⌝ }
+{
+    let bytes = four_bytes(value.object_type as u32 * 4194304 + value.instance);
+    plain(ApplicationTagNumber::ObjectId, &bytes, buf, place)
 }
 
 // Writes an item: its header, and then its content into the rest of the buffer.
