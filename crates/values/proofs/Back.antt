@@ -1,7 +1,7 @@
 -- What is written reads back as the same value, with the next place at its end.
 -- Assumes nothing.
 use mathlib.Core.Path.{_≡_, refl, _∙_, ap, sym, subst, subst₂}
-use mathlib.Core.Bool.{Bool, true, false}
+use mathlib.Core.Bool.{true, false}
 use Prim.Native.Nat.{ℕ, suc, _+_, _-_, _*_, _/_, _%_, _^_, _<_, _≤_}
 use native.Mathlib.Omega.{arith}
 use mathlib.Core.List.{List, [], _∷_, _++_, append-assoc, append-nil}
@@ -9,16 +9,16 @@ use lib.Dec.{T, ltb}
 use lib.ListN.{length, drop, length-append}
 use lib.IntN.{ℤ}
 use lib.Signed.{mag}
-use lib.Ieee.{Float, binary32, binary64, fits, toBits, ofBits, top}
+use lib.Ieee.{Float, binary32, binary64, fits, toBits, ofBits}
 use lib.Ieee.Bits.{ofBits-toBits, toBits-lt}
 use borrow.Author.Tests.{ltb-false}
 use Rattle.types.specs.Tag.{application, Tag, tag}
 use Rattle.types.specs.Choice.{if}
 use Rattle.types.specs.Refusal.{amount}
 use Rattle.types.specs.Answer.{Answer, accepted, refused}
-use Rattle.types.specs.Writing.{Left, left, over, Writable, can, cannot, unless, settled, writeAnswer, writing}
+use Rattle.types.specs.Writing.{Left, left, Writable, can, cannot, unless, settled, writeAnswer, writing}
 use Rattle.types.proofs.Choices.{either}
-use Rattle.numbers.specs.Integer.{lowBytes, unsignedValue, signedValue, unsignedBytes, signedBytes}
+use Rattle.numbers.specs.Integer.{lowBytes, unsignedValue, unsignedBytes, signedBytes}
 use Rattle.numbers.specs.Reading.{partAt}
 use Rattle.numbers.proofs.Low.{low-bytes-stand}
 use Rattle.numbers.proofs.Shortest.{unsigned-length, signed-length, signed-between, unsigned-shortest, signed-shortest}
@@ -32,9 +32,9 @@ use Rattle.utf8.specs.Check.{Verdict, good, badAt, checkOf}
 use Rattle.utf8.proofs.Exactly.{good-exactly}
 use Rattle.values.specs.Value.{Value, boolean, real, double, onDate, atTime, objectId, characterString, octetString, enumerated, bitString, unsignedInt, signedInt, date}
 use Rattle.values.specs.Reading.{valueFrom}
-use Rattle.values.specs.Writing.{dateBytes, timeBytes, bytesOf, valueBytes, textWritableBy, textWritable, writableValue, valueTo}
+use Rattle.values.specs.Writing.{dateBytes, timeBytes, valueBytes, textWritableBy, textWritable, writableValue, valueTo}
 use Rattle.values.specs.Content.{Content, ofBoolean, ofUnsigned, ofSigned, ofReal, ofDouble, ofOctetString, ofText, ofBitString, ofEnumerated, ofDate, ofTime, ofObjectId}
-use Rattle.values.proofs.Exactly.{ValueAt, read-exactly}
+use Rattle.values.proofs.Exactly.{read-exactly}
 use Rattle.values.proofs.Fits.{date-fits, id-fits}
 
 -- the value as it reads back where its content begins at a place: text, octets and bits are the part that holds the lent bytes

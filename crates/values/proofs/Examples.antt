@@ -2,17 +2,17 @@
 -- Assumes nothing.
 use mathlib.Core.Path.{_≡_, refl}
 use Prim.Native.Nat.{ℕ}
-use mathlib.Core.Bool.{true, false}
+use mathlib.Core.Bool.{true}
 use mathlib.Core.List.{List, [], _∷_, map}
-use lib.IntN.{pos, negsuc}
+use lib.IntN.{negsuc}
 use Rattle.types.specs.Tag.{application, context, tag}
 use Rattle.types.specs.Refusal.{amount, tagFound}
 use Rattle.types.specs.Answer.{Answer, accepted, refused}
 use Rattle.numbers.specs.Reading.{partAt, byteFrom, sliceFrom, fixedFrom, contentFrom, unsignedFrom, signedFrom}
-use Rattle.tags.specs.Reading.{numberFrom, valueFrom as tagValueFrom, tagAfter, tagFrom}
+use Rattle.tags.specs.Reading.{numberFrom, tagValueFrom, tagAfter, tagFrom}
 use Rattle.utf8.specs.Table.{UTF8-1, UTF8-2, UTF8-3, UTF8-4, UTF8-char}
 use Rattle.utf8.specs.Check.{within, begins, sequenceLength, begun, checkFrom, checkOf}
-use Rattle.values.specs.Value.{Value, boolean, onDate, atTime, objectId, characterString, octetString, enumerated, bitString, unsignedInt, signedInt, date, time}
+use Rattle.values.specs.Value.{Value, boolean, onDate, atTime, objectId, characterString, octetString, enumerated, bitString, signedInt, date, time}
 use Rattle.values.specs.Reading.{booleanUnder, unsignedUnder, signedUnder, realUnder, octetsUnder, textIn, textUnder, bitsUnder, enumeratedUnder, dateUnder, timeUnder, objectIdUnder, ofKind, underTag, valueFrom}
 
 abbrev pub buffers : List (List ℕ)

@@ -1,7 +1,6 @@
 -- No two answers of the value reader are the same on paper, so its promise admits a single one.
 -- Assumes nothing.
 use mathlib.Core.Path.{_≡_, refl, ap}
-use Prim.Native.Nat.{ℕ}
 use Rattle.types.specs.Refusal.{row}
 use Rattle.types.specs.Answer.{Answer, accepted, refused}
 use Rattle.types.proofs.Single.{told-apart, programRefusal, refusal-back}

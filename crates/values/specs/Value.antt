@@ -5,8 +5,6 @@ use mathlib.Core.Bool.{Bool}
 use lib.IntN.{ℤ}
 use lib.Ieee.{Float}
 use Rattle.numbers.specs.Reading.{Part, partAt}
-use Rattle.values.specs.declared.value.Date as program-date
-use Rattle.values.specs.declared.value.Time as program-time
 use Rattle.values.specs.declared.value.ApplicationDataValue.{ApplicationDataValue}
 use Rattle.values.specs.declared.value.ApplicationDataValue.the-variants as v
 

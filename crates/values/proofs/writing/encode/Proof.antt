@@ -2,13 +2,11 @@
 -- Assumes nothing.
 use borrow.Author.Needs.{needs}
 use mathlib.Core.Path.{_≡_, _∙_, ap, sym}
-use lib.ListN.{length}
 use borrow.Author.Tests.{lt-ltb, le-ltb}
-use Rattle.types.specs.Answer.{Outcome, passed, stopped, paperOutcome}
-use Rattle.types.specs.Refusal.{table}
-use Rattle.types.specs.Writing.{Writable, can, cannot, writeAnswer, writing}
+use Rattle.types.specs.Answer.{paperOutcome}
+use Rattle.types.specs.Writing.{can, writeAnswer, writing}
 use Rattle.values.specs.Value.{valueOf}
-use Rattle.values.specs.Writing.{writableValue, outcomeOf, valueBytes, valueTo}
+use Rattle.values.specs.Writing.{writableValue, valueTo}
 use Rattle.values.proofs.Fits.{passed-can, stopped-cannot}
 use Rattle.values.proofs.writing.encode.Statement.{statement}
 use Rattle.values.proofs.writing.encode.Tie as tie

@@ -3,7 +3,6 @@
 use borrow.Author.Needs.{needs}
 use native.Mathlib.Omega.{arith}
 use mathlib.Core.Path.{_∙_, ap}
-use mathlib.Core.List.{List}
 use lib.ListN.{length, set, length-set}
 use Rattle.types.specs.Writing.{Left}
 use Rattle.numbers.proofs.Wrote.{write-fits}
