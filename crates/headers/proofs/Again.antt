@@ -11,7 +11,7 @@ use borrow.Author.Tests.{le-ltb}
 use Rattle.types.specs.Answer.{accepted}
 use Rattle.types.specs.Writing.{Writable, can, left, over, writeAnswer, writing}
 use Rattle.numbers.specs.Integer.{Bytes}
-use Rattle.numbers.proofs.FieldValue.{bytes-dropped}
+use Rattle.numbers.proofs.Value.{bytes-dropped}
 use Rattle.numbers.proofs.Found.{behind}
 use Rattle.numbers.proofs.Over.{one-replaced}
 use Rattle.headers.specs.Header.{Field, FieldValue, Header, rowOf}
