@@ -1,4 +1,4 @@
--- ItemsRead (document 01, "Bodies"; ASHRAE 135, 20.2.1.3): a tag followed by as many bytes as its value, with three exceptions.
+-- Items (document 01, "Bodies"; ASHRAE 135, 20.2.1.3): a tag followed by as many bytes as its value, with three exceptions.
 -- Assumes nothing.
 use Prim.Native.Nat.{ℕ}
 use mathlib.Core.List.{List}
