@@ -51,7 +51,7 @@ module _ (b : ℕ) (low : b % 8 ≤ 4) (few : b ≤ 247) where
     context-tag : b / 8 % 2 ≡ 1 → tagFrom xs place ≡ accepted (tag (context (b / 16)) (b % 8)) (place + 1)
     unfolding tagFrom byteFrom tagAfter numberFrom tagValueFrom
     context-tag a =
-        simp (le-ltb 65535 (length xs) small, le-ltb (length xs) place (omega arith), lt-leb (length xs) place inside, is, ne-eqb (b / 8 % 2) 0 (λ z. omega arith), ne-eqb (b / 16) 15 (λ z. omega arith), ne-eqb (b % 8) 6 (λ z. omega arith), ne-eqb (b % 8) 7 (λ z. omega arith), lt-ltb (b % 8) 5 (omega arith))
+        simp (le-ltb 65535 (length xs) small, le-ltb (length xs) place (omega arith), lt-leb (length xs) place inside, is, ne-eqb (b / 8 % 2) 0 (λ z. omega arith), lt-ltb (b / 16) 15 (omega arith), ne-eqb (b % 8) 6 (λ z. omega arith), ne-eqb (b % 8) 7 (λ z. omega arith), lt-ltb (b % 8) 5 (omega arith))
 
     plain-goes : (n unclosed : ℕ) → stepFrom n unclosed xs place ≡ onward unclosed (place + plainLength b)
     plain-goes n unclosed = by (eqb (b / 8 % 2) 0) refl

@@ -13,7 +13,7 @@ use Rattle.numbers.proofs.Wrote.{wrote, written-here, over-length}
 use Rattle.headers.specs.Header.{Kind, request, simple, complex, segment, Field, twoNibbles, oneNumber, oneChoice, FieldValue, nibbles, number, choice, Header, rowOf, kinds, headerOf}
 use Rattle.headers.specs.Reading.{headerFrom}
 use Rattle.headers.specs.Writing.{byteOf, valueWritable, writable, headerBytes, headerTo}
-use Rattle.headers.specs.Bytes.{Carries, asNibbles, asNumber, asChoice, AreFields, none, more, Tells, IsHeader, ofRow}
+use Rattle.headers.specs.Bytes.{Carries, asNibbles, asNumber, asChoice, AreFields, none, more, TellsKind, IsHeader, ofRow}
 use Rattle.headers.specs.declared.header.Header as program
 use Rattle.headers.specs.declared.header.Header.the-variants as h
 use Rattle.headers.proofs.Writable.{both-parts, four-bits, choice-small, could-be-written}
@@ -71,7 +71,7 @@ unfolding headerBytes
 written-is-header h t w =
     let l : rowOf (h .kind) .low (h .fields) < 8 = low-short (h .kind) (h .fields) in
     let control : ℕ = rowOf (h .kind) .pduType * 16 + rowOf (h .kind) .low (h .fields) in
-    let tells : Tells (h .kind) control = record { ofType = omega arith; unsegmented = λ e. omega arith } in
+    let tells : TellsKind (h .kind) control = record { ofType = omega arith; unsegmented = λ e. omega arith } in
     ofRow tells
     (subst (λ (fs : List Field). AreFields fs (h .fields) (map byteOf (h .fields))) t (fields-carried (h .fields) w))
 

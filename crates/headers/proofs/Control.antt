@@ -13,10 +13,10 @@ use Rattle.types.specs.Answer.{Answer, refused}
 use Rattle.types.proofs.Single.{told-apart}
 use Rattle.headers.specs.Header.{Kind, request, simple, complex, segment, Header, rowOf, kinds}
 use Rattle.headers.specs.Reading.{tells, kindFrom, firstOf, headerAfter}
-use Rattle.headers.specs.Bytes.{Tells}
+use Rattle.headers.specs.Bytes.{TellsKind}
 
 -- the test of a row says whether the control byte tells the kind
-module _ (k : Kind) (control : ℕ) (P : Bool → Type 0) (yes-case : Tells k control → P true) (no-case : (Tells k control → ⊥) → P false) where
+module _ (k : Kind) (control : ℕ) (P : Bool → Type 0) (yes-case : TellsKind k control → P true) (no-case : (TellsKind k control → ⊥) → P false) where
   tells-cases : P (tells (rowOf k) control)
   tells-cases = go (eqb (control / 16) (rowOf k .pduType)) refl (rowOf k .segmentable) refl (eqb (control / 8 % 2) 0) refl
     where
@@ -29,17 +29,17 @@ module _ (k : Kind) (control : ℕ) (P : Bool → Type 0) (yes-case : Tells k co
 -- the control byte tells none of some kinds
 abbrev NoneOf : List Kind → ℕ → Type 0
 NoneOf [] control = Unit {0}
-NoneOf (k ∷ ks) control = (Tells k control → ⊥) × NoneOf ks control
+NoneOf (k ∷ ks) control = (TellsKind k control → ⊥) × NoneOf ks control
 
 -- `kinds` leaves none out
-none-left : (control : ℕ) → NoneOf kinds control → (k : Kind) → Tells k control → ⊥
+none-left : (control : ℕ) → NoneOf kinds control → (k : Kind) → TellsKind k control → ⊥
 none-left control n request = n .0
 none-left control n simple = n .1 .0
 none-left control n complex = n .1 .1 .0
 none-left control n segment = n .1 .1 .1 .0
 
 first-cases : (ks : List Kind) (control : ℕ) (xs : List ℕ) (place : ℕ) (P : Answer Header → Type 0)
-    → ((k : Kind) → Tells k control → P (kindFrom k xs place)) → (NoneOf ks control → P (refused 17 (amount control))) → P (firstOf ks control xs place)
+    → ((k : Kind) → TellsKind k control → P (kindFrom k xs place)) → (NoneOf ks control → P (refused 17 (amount control))) → P (firstOf ks control xs place)
 first-cases [] control xs place P f g = g tt
 first-cases (k ∷ ks) control xs place P f g =
     tells-cases k control (λ b. P (if b (kindFrom k xs place) (firstOf ks control xs place)))
@@ -48,7 +48,7 @@ first-cases (k ∷ ks) control xs place P f g =
 
 -- what holds of the header of the kind told, and of 17 where none is told, holds of the header behind a control byte
 pub after-cases : (control : ℕ) (xs : List ℕ) (place : ℕ) (P : Answer Header → Type 0)
-    → ((k : Kind) → Tells k control → P (kindFrom k xs place)) → (((k : Kind) → Tells k control → ⊥) → P (refused 17 (amount control))) → P (headerAfter control xs place)
+    → ((k : Kind) → TellsKind k control → P (kindFrom k xs place)) → (((k : Kind) → TellsKind k control → ⊥) → P (refused 17 (amount control))) → P (headerAfter control xs place)
 unfolding headerAfter
 after-cases control xs place P f g = first-cases kinds control xs place P f (λ n. g (none-left control n))
 
@@ -62,15 +62,15 @@ type-back simple = refl
 type-back complex = refl
 type-back segment = refl
 
-pub one-kind : (control : ℕ) (j k : Kind) → Tells j control → Tells k control → j ≡ k
+pub one-kind : (control : ℕ) (j k : Kind) → TellsKind j control → TellsKind k control → j ≡ k
 one-kind control j k a b = told-apart (λ (x : Kind). rowOf x .pduType) ofType type-back j k (sym (a .ofType) ∙ b .ofType)
 
 -- so the header behind a control byte is that of the kind that it tells
-pub after-told : (control : ℕ) (xs : List ℕ) (place : ℕ) (k : Kind) → Tells k control → headerAfter control xs place ≡ kindFrom k xs place
+pub after-told : (control : ℕ) (xs : List ℕ) (place : ℕ) (k : Kind) → TellsKind k control → headerAfter control xs place ≡ kindFrom k xs place
 after-told control xs place k w =
     after-cases control xs place (λ a. a ≡ kindFrom k xs place)
     (λ j v. ap (λ (x : Kind). kindFrom x xs place) (one-kind control j k v w))
     (λ n. absurd (n k w))
 
-pub after-none : (control : ℕ) (xs : List ℕ) (place : ℕ) → ((k : Kind) → Tells k control → ⊥) → headerAfter control xs place ≡ refused 17 (amount control)
+pub after-none : (control : ℕ) (xs : List ℕ) (place : ℕ) → ((k : Kind) → TellsKind k control → ⊥) → headerAfter control xs place ≡ refused 17 (amount control)
 after-none control xs place n = after-cases control xs place (λ a. a ≡ refused 17 (amount control)) (λ k w. absurd (n k w)) (λ m. refl)

@@ -13,7 +13,7 @@ use Rattle.numbers.specs.Reading.{byteFrom}
 use Rattle.numbers.proofs.Found.{ByteFound, byte-at, behind}
 use Rattle.headers.specs.Header.{Kind, Field, FieldValue, Header, header, rowOf}
 use Rattle.headers.specs.Reading.{fieldsFrom, headerAfter, headerFrom}
-use Rattle.headers.specs.Bytes.{AreFields, none, more, BreakOff, Tells, IsHeader, ofRow, Broken, empty, inRow, Found, OtherType, ChoiceAbove, RunsOut, Answers, tooLong, pastEnd, runsOut, otherType, choiceAbove, whole}
+use Rattle.headers.specs.Bytes.{AreFields, none, more, BreakOff, TellsKind, IsHeader, ofRow, Broken, empty, inRow, Found, OtherType, ChoiceAbove, RunsOut, Answers, tooLong, pastEnd, runsOut, otherType, choiceAbove, whole}
 use Rattle.headers.proofs.Row.{byte-cases, byte-missing, RowAnswers, wholeRow, brokenRow, choiceAboveInRow, row-sound, row-complete}
 use Rattle.headers.proofs.Control.{after-cases, after-told, after-none}
 
@@ -27,7 +27,7 @@ is-length (ofRow w are) = ap suc (fields-length are)
 
 module _ (xs : List ℕ) (place : ℕ) where
   -- a row behind a control byte that tells its kind is a header
-  with-control : (control next : ℕ) → ByteFound xs place control next → (k : Kind) → Tells k control → (a : Answer (List FieldValue)) → RowAnswers (rowOf k .follow) xs next a
+  with-control : (control next : ℕ) → ByteFound xs place control next → (k : Kind) → TellsKind k control → (a : Answer (List FieldValue)) → RowAnswers (rowOf k .follow) xs next a
       → Answers xs place (then a (λ vs end. accepted (header k vs) end))
   with-control control next g k w (accepted vs end) (wholeRow bytes rest e are n) =
       let m : end ≡ place + suc (length bytes) = omega (arith, g .ends) in
@@ -58,16 +58,16 @@ module _ (xs : List ℕ) (place : ℕ) where
     further : drop (place + 1) xs ≡ rest
     further = behind xs place (control ∷ []) rest e
 
-    of-kind : (k : Kind) → Tells k control → headerFrom xs place ≡ then (fieldsFrom (rowOf k .follow) xs (place + 1)) (λ vs next. accepted (header k vs) next)
+    of-kind : (k : Kind) → TellsKind k control → headerFrom xs place ≡ then (fieldsFrom (rowOf k .follow) xs (place + 1)) (λ vs next. accepted (header k vs) next)
     unfolding headerFrom
     of-kind k w = simp (byte-at xs place control rest small e) (after-told control xs (place + 1) k w)
 
-    of-none : ((k : Kind) → Tells k control → ⊥) → headerFrom xs place ≡ refused 17 (amount control)
+    of-none : ((k : Kind) → TellsKind k control → ⊥) → headerFrom xs place ≡ refused 17 (amount control)
     unfolding headerFrom
     of-none n = simp (byte-at xs place control rest small e) (after-none control xs (place + 1) n)
 
     -- and a row behind it
-    of-row : (k : Kind) → Tells k control → (a : Answer (List FieldValue)) → RowAnswers (rowOf k .follow) xs (place + 1) a → headerFrom xs place ≡ then a (λ vs next. accepted (header k vs) next)
+    of-row : (k : Kind) → TellsKind k control → (a : Answer (List FieldValue)) → RowAnswers (rowOf k .follow) xs (place + 1) a → headerFrom xs place ≡ then a (λ vs next. accepted (header k vs) next)
     of-row k w a r = of-kind k w ∙ ap (λ (x : Answer (List FieldValue)). then x (λ vs next. accepted (header k vs) next)) (row-complete xs small (rowOf k .follow) (place + 1) inside a r)
 
   whole-read : {h : Header} {next : ℕ} → (bytes rest : List ℕ) → length xs ≤ 65535 → drop place xs ≡ bytes ++ rest → next ≡ place + length bytes → IsHeader h bytes → headerFrom xs place ≡ accepted h next

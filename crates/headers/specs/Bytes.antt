@@ -31,18 +31,18 @@ pub data UpToChoiceAbove : List Field → ℕ → List ℕ → Type 0 where
   after : {f : Field} {fs : List Field} {v : FieldValue} {b c : ℕ} {bytes : List ℕ} → Carries f v b → UpToChoiceAbove fs c bytes → UpToChoiceAbove (f ∷ fs) c (b ∷ bytes)
 
 -- a control byte of a kind: its high nibble is the type, and where the kind can come in segments, bit 3 is clear
-pub record Tells (k : Kind) (control : ℕ) : Type 0 where
+pub record TellsKind (k : Kind) (control : ℕ) : Type 0 where
   pub ofType : control / 16 ≡ rowOf k .pduType
   pub unsegmented : rowOf k .segmentable ≡ true → control / 8 % 2 ≡ 0
 
 -- bytes that are one whole header
 pub data IsHeader : Header → List ℕ → Type 0 where
-  ofRow : {k : Kind} {control : ℕ} {vs : List FieldValue} {bytes : List ℕ} → Tells k control → AreFields (rowOf k .follow) vs bytes → IsHeader (header k vs) (control ∷ bytes)
+  ofRow : {k : Kind} {control : ℕ} {vs : List FieldValue} {bytes : List ℕ} → TellsKind k control → AreFields (rowOf k .follow) vs bytes → IsHeader (header k vs) (control ∷ bytes)
 
 -- bytes that break off before a header's end
 pub data Broken : List ℕ → Type 0 where
   empty : Broken []
-  inRow : {k : Kind} {control : ℕ} {bytes : List ℕ} → Tells k control → BreakOff (rowOf k .follow) bytes → Broken (control ∷ bytes)
+  inRow : {k : Kind} {control : ℕ} {bytes : List ℕ} → TellsKind k control → BreakOff (rowOf k .follow) bytes → Broken (control ∷ bytes)
 
 -- a whole header stands at a place, up to the next one
 pub record Found (xs : List ℕ) (place : ℕ) (h : Header) (next : ℕ) : Type 0 where
@@ -59,7 +59,7 @@ pub record OtherType (xs : List ℕ) (place : ℕ) (c : Carried) : Type 0 where
   pub control : ℕ
   pub rest : List ℕ
   pub here : drop place xs ≡ control ∷ rest
-  pub ofNone : (k : Kind) → Tells k control → ⊥
+  pub ofNone : (k : Kind) → TellsKind k control → ⊥
   pub carries : c ≡ amount control
 
 -- a header begins at a place, with a service choice above 33: it is carried
@@ -70,7 +70,7 @@ pub record ChoiceAbove (xs : List ℕ) (place : ℕ) (c : Carried) : Type 0 wher
   pub bytes : List ℕ
   pub rest : List ℕ
   pub here : drop place xs ≡ control ∷ (bytes ++ rest)
-  pub ofKind : Tells kind control
+  pub ofKind : TellsKind kind control
   pub found : ℕ
   pub upTo : UpToChoiceAbove (rowOf kind .follow) found bytes
   pub carries : c ≡ amount found

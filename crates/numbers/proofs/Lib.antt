@@ -10,3 +10,4 @@ pub mod Wrote
 pub mod Untouched
 pub mod Single
 pub mod Examples
+pub mod Accepted

@@ -1,6 +1,6 @@
 -- What is known where a write succeeded, and what then stands in the buffer.
 -- Assumes nothing.
-use mathlib.Core.Path.{_≡_, refl, subst}
+use mathlib.Core.Path.{_≡_, refl, subst, _∙_, ap, sym}
 use Prim.Native.Nat.{ℕ, _+_, _≤_}
 use native.Mathlib.Omega.{arith}
 use mathlib.Core.List.{List, _++_}
@@ -22,15 +22,18 @@ abbrev WroteOr : List ℕ → List ℕ → ℕ → List ℕ → Answer (Unit {0}
 WroteOr bytes xs place ys (accepted u next) = Wrote bytes xs place next ys
 WroteOr bytes xs place ys (refused n c) = Unit {0}
 
-settled-wrote : (bytes xs : List ℕ) (place : ℕ) (a : Answer (Unit {0})) → Room (length bytes) xs place a → WroteOr bytes xs place (settled bytes xs place a .buffer) (settled bytes xs place a .answer)
-settled-wrote bytes xs place (accepted u next) r = record { small = r .2; room = r .1; ends = r .0; buffer = refl }
-settled-wrote bytes xs place (refused n c) r = tt
+settled-wrote : (bytes xs : List ℕ) (place count : ℕ) (a : Answer (Unit {0})) → length bytes ≤ count → Room count xs place a → WroteOr bytes xs place (settled bytes xs place a .buffer) (settled bytes xs place a .answer)
+settled-wrote bytes xs place count (accepted u next) l r = record { small = r .2; room = omega (arith, r .1); ends = refl; buffer = refl }
+settled-wrote bytes xs place count (refused n c) l r = tt
+
+-- bytes that others may be to follow, where room was tested for all
+pub wrote-first : (lent : ℕ) (w : Writable) (count : ℕ) (bytes xs : List ℕ) (place next : ℕ) (ys : List ℕ) → length bytes ≤ count → settled bytes xs place (writeAnswer lent w count xs place) ≡ left (accepted tt next) ys → Wrote bytes xs place next ys
+wrote-first lent w count bytes xs place next ys l e =
+    subst (λ (k : Left). WroteOr bytes xs place (k .buffer) (k .answer)) e (settled-wrote bytes xs place count (writeAnswer lent w count xs place) l (write-room lent w count xs place))
 
 pub wrote : (lent : ℕ) (w : Writable) (bytes xs : List ℕ) (place next : ℕ) (ys : List ℕ) → writing lent w bytes xs place ≡ left (accepted tt next) ys → Wrote bytes xs place next ys
 unfolding writing
-wrote lent w bytes xs place next ys e =
-    subst (λ (l : Left). WroteOr bytes xs place (l .buffer) (l .answer)) e
-    (settled-wrote bytes xs place (writeAnswer lent w (length bytes) xs place) (write-room lent w (length bytes) xs place))
+wrote lent w bytes xs place next ys e = wrote-first lent w (length bytes) bytes xs place next ys (omega arith) e
 
 module _ (bytes xs : List ℕ) (place : ℕ) (room : place + length bytes ≤ length xs) where
   -- the bytes stand at the place
@@ -46,3 +49,12 @@ pub write-fits : (lent : ℕ) (bytes xs : List ℕ) (place : ℕ) → lent ≤ 6
 unfolding writing writeAnswer
 write-fits lent bytes xs place l small room =
     simp (le-ltb 65535 (length xs) small, le-ltb 65535 lent l, le-ltb (length xs) place (omega arith), le-ltb (length xs) (place + length bytes) room)
+
+-- where a write of so many bytes is accepted, the buffer with these in place is what it leaves
+pub stored : (lent : ℕ) (w : Writable) (count : ℕ) (bytes xs : List ℕ) (place next : ℕ) (ys : List ℕ) → writeAnswer lent w count xs place ≡ accepted tt next → length bytes ≡ count → ys ≡ over xs place bytes
+    → left (accepted tt next) ys ≡ writing lent w bytes xs place
+unfolding writing
+stored lent w count bytes xs place next ys e l b =
+    let r : Room count xs place (accepted tt next) = rw e at (write-room lent w count xs place) in
+    let p : next ≡ place + length bytes = omega (arith, r .0) in
+    (λ i. left (accepted tt (p i)) (b i)) ∙ ap (settled bytes xs place) (sym (ap (λ (k : ℕ). writeAnswer lent w k xs place) l ∙ e))

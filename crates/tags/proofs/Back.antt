@@ -1,7 +1,7 @@
 -- What is written reads back: every tag that can be carried, and every integer under every tag that its writer takes.
 -- Assumes nothing.
 use mathlib.Core.Path.{_≡_, _∙_, ap, ap₂, sym, subst}
-use Prim.Native.Nat.{ℕ, _+_, _*_, _/_, _%_, _^_, _<_, _≤_}
+use Prim.Native.Nat.{ℕ, _+_, _*_, _^_, _<_, _≤_}
 use native.Mathlib.Omega.{arith}
 use native.Mathlib.Decide.{decLt}
 use mathlib.Core.List.{List, [], _∷_, _++_, append-assoc}
@@ -19,63 +19,60 @@ use Rattle.numbers.proofs.Shortest.{unsigned-shortest, signed-shortest}
 use Rattle.numbers.proofs.Found.{behind, unsigned-at, signed-at}
 use Rattle.numbers.proofs.Wrote.{wrote, written-here, over-length}
 use Rattle.tags.specs.Reading.{tagFrom}
-use Rattle.tags.specs.Header.{Tells, inline, one, two, four, IsTag, ofApplication, ofLongContext, ofContext, ofOpening, ofClosing}
-use Rattle.tags.specs.Writing.{lowBits, tagValueBytes, numberBytes, tagBytes, writableTag, tagTo}
+use Rattle.tags.specs.Header.{classBit, numberField, lowBits, TellsValue, inline, one, two, four, IsTag, ofApplication, ofLongContext, ofContext, ofOpening, ofClosing}
+use Rattle.tags.specs.Writing.{lowBitsFor, tagValueBytes, numberBytes, tagBytes, writableTag, tagTo}
 use Rattle.tags.specs.Item.{itemBytes, itemTo}
 use Rattle.tags.proofs.Exactly.{tag-read}
 use Rattle.tags.proofs.Range.{InRange}
 
 -- below, or not
-split : {A : Type 0} (m n : ℕ) → (m < n → A) → (n ≤ m → A) → A
+pub split : {A : Type 0} (m n : ℕ) → (m < n → A) → (n ≤ m → A) → A
 split {A} m n f g = go (decLt m n)
   where
     go : Dec (m < n) → A
     go (yes h) = f h
     go (no h) = g (omega arith)
 
-low-lt : (v : ℕ) → lowBits v < 6
+pub low-lt : (v : ℕ) → lowBitsFor v < 6
 low-lt v = split v 5 (λ h. simp (lt-ltb v 5 h) (omega arith)) (λ h. simp (le-ltb v 5 h) (omega arith))
 
 -- the low bits and the bytes that are written for a value tell it
-value-told : (v : ℕ) → v < 2 ^ 32 → Tells (lowBits v) v (tagValueBytes v)
+value-told : (v : ℕ) → v < 2 ^ 32 → TellsValue (lowBitsFor v) v (tagValueBytes v)
 value-told v k =
     split v 5 (λ h. simp (lt-ltb v 5 h) (inline h)) (λ h.
     split v 254 (λ h₂. simp (le-ltb v 5 h, lt-ltb v 254 h₂) (one {b = v} (omega arith) (omega arith))) (λ h₂.
     split v 65536
-    (λ h₃. simp (le-ltb v 5 h, le-ltb v 254 h₂, lt-ltb v 65536 h₃) (subst (λ (x : ℕ). Tells 5 x (254 ∷ lowBytes 2 v)) (low-bytes-stand 2 v h₃) (two (lowBytes 2 v) (low-bytes-length 2 v))))
-    (λ h₃. simp (le-ltb v 5 h, le-ltb v 254 h₂, le-ltb v 65536 h₃) (subst (λ (x : ℕ). Tells 5 x (255 ∷ lowBytes 4 v)) (low-bytes-stand 4 v k) (four (lowBytes 4 v) (low-bytes-length 4 v))))))
+    (λ h₃. simp (le-ltb v 5 h, le-ltb v 254 h₂, lt-ltb v 65536 h₃) (subst (λ (x : ℕ). TellsValue 5 x (254 ∷ lowBytes 2 v)) (low-bytes-stand 2 v h₃) (two (lowBytes 2 v) (low-bytes-length 2 v))))
+    (λ h₃. simp (le-ltb v 5 h, le-ltb v 254 h₂, le-ltb v 65536 h₃) (subst (λ (x : ℕ). TellsValue 5 x (255 ∷ lowBytes 4 v)) (low-bytes-stand 4 v k) (four (lowBytes 4 v) (low-bytes-length 4 v))))))
 
 -- what the first byte says: its class, its number field and its low bits
-application-bits : (n low : ℕ) → low < 8 → ((n * 16 + low) / 8 % 2 ≡ 0) × ((n * 16 + low) / 16 ≡ n) × ((n * 16 + low) % 8 ≡ low)
+application-bits : (n low : ℕ) → low < 8 → (classBit (n * 16 + low) ≡ 0) × (numberField (n * 16 + low) ≡ n) × (lowBits (n * 16 + low) ≡ low)
 application-bits n low h = (omega arith, omega arith, omega arith)
 
-context-bits : (n low : ℕ) → low < 8 → ((n * 16 + 8 + low) / 8 % 2 ≡ 1) × ((n * 16 + 8 + low) / 16 ≡ n) × ((n * 16 + 8 + low) % 8 ≡ low)
+context-bits : (n low : ℕ) → low < 8 → (classBit (n * 16 + 8 + low) ≡ 1) × (numberField (n * 16 + 8 + low) ≡ n) × (lowBits (n * 16 + 8 + low) ≡ low)
 context-bits n low h = (omega arith, omega arith, omega arith)
 
-long-bits : (low : ℕ) → low < 8 → ((248 + low) / 8 % 2 ≡ 1) × ((248 + low) / 16 ≡ 15) × ((248 + low) % 8 ≡ low)
+long-bits : (low : ℕ) → low < 8 → (classBit (248 + low) ≡ 1) × (15 ≤ numberField (248 + low)) × (lowBits (248 + low) ≡ low)
 long-bits low h = (omega arith, omega arith, omega arith)
-
-not-fifteen : (n m : ℕ) → m ≡ n → n < 15 → m ≡ 15 → ⊥
-not-fifteen n m e h f = omega arith
 
 -- the bytes that are written for a tag are that tag
 module _ (n v : ℕ) where
   application-is : v < 2 ^ 32 → IsTag (tag (application n) v) (numberBytes (application n) v)
   application-is k =
-      let b = application-bits n (lowBits v) (omega (arith, low-lt v)) in
+      let b = application-bits n (lowBitsFor v) (omega (arith, low-lt v)) in
       subst (λ (x : ℕ). IsTag (tag (application x) v) (numberBytes (application n) v)) (b .1)
-      (ofApplication (b .0) (subst (λ (x : ℕ). Tells x v (tagValueBytes v)) (sym (b .2)) (value-told v k)))
+      (ofApplication (b .0) (subst (λ (x : ℕ). TellsValue x v (tagValueBytes v)) (sym (b .2)) (value-told v k)))
 
-  context-field : n < 15 → v < 2 ^ 32 → IsTag (tag (context n) v) ((n * 16 + 8 + lowBits v) ∷ tagValueBytes v)
+  context-field : n < 15 → v < 2 ^ 32 → IsTag (tag (context n) v) ((n * 16 + 8 + lowBitsFor v) ∷ tagValueBytes v)
   context-field h k =
-      let b = context-bits n (lowBits v) (omega (arith, low-lt v)) in
-      subst (λ (x : ℕ). IsTag (tag (context x) v) ((n * 16 + 8 + lowBits v) ∷ tagValueBytes v)) (b .1)
-      (ofContext (b .0) (not-fifteen n _ (b .1) h) (subst (λ (x : ℕ). x < 6) (sym (b .2)) (low-lt v)) (subst (λ (x : ℕ). Tells x v (tagValueBytes v)) (sym (b .2)) (value-told v k)))
+      let b = context-bits n (lowBitsFor v) (omega (arith, low-lt v)) in
+      subst (λ (x : ℕ). IsTag (tag (context x) v) ((n * 16 + 8 + lowBitsFor v) ∷ tagValueBytes v)) (b .1)
+      (ofContext (b .0) (subst (λ (x : ℕ). x < 15) (sym (b .1)) h) (subst (λ (x : ℕ). x < 6) (sym (b .2)) (low-lt v)) (subst (λ (x : ℕ). TellsValue x v (tagValueBytes v)) (sym (b .2)) (value-told v k)))
 
-  context-second : v < 2 ^ 32 → IsTag (tag (context n) v) ((248 + lowBits v) ∷ n ∷ tagValueBytes v)
+  context-second : v < 2 ^ 32 → IsTag (tag (context n) v) ((248 + lowBitsFor v) ∷ n ∷ tagValueBytes v)
   context-second k =
-      let b = long-bits (lowBits v) (omega (arith, low-lt v)) in
-      ofLongContext (b .0) (b .1) (subst (λ (x : ℕ). Tells x v (tagValueBytes v)) (sym (b .2)) (value-told v k))
+      let b = long-bits (lowBitsFor v) (omega (arith, low-lt v)) in
+      ofLongContext (b .0) (b .1) (subst (λ (x : ℕ). TellsValue x v (tagValueBytes v)) (sym (b .2)) (value-told v k))
 
   context-is : v < 2 ^ 32 → IsTag (tag (context n) v) (numberBytes (context n) v)
   context-is k = split n 15 (λ h. simp (lt-ltb n 15 h) (context-field h k)) (λ h. simp (le-ltb n 15 h) (context-second k))
@@ -83,12 +80,12 @@ module _ (n v : ℕ) where
 opening-is : (n : ℕ) → n < 15 → IsTag (tag (opening n) 0) (numberBytes (opening n) 0)
 opening-is n h =
     let b = context-bits n 6 (omega arith) in
-    simp (lt-ltb n 15 h) (subst (λ (x : ℕ). IsTag (tag (opening x) 0) ((n * 16 + 8 + 6) ∷ [])) (b .1) (ofOpening (b .0) (not-fifteen n _ (b .1) h) (b .2)))
+    simp (lt-ltb n 15 h) (subst (λ (x : ℕ). IsTag (tag (opening x) 0) ((n * 16 + 8 + 6) ∷ [])) (b .1) (ofOpening (b .0) (subst (λ (x : ℕ). x < 15) (sym (b .1)) h) (b .2)))
 
 closing-is : (n : ℕ) → n < 15 → IsTag (tag (closing n) 0) (numberBytes (closing n) 0)
 closing-is n h =
     let b = context-bits n 7 (omega arith) in
-    simp (lt-ltb n 15 h) (subst (λ (x : ℕ). IsTag (tag (closing x) 0) ((n * 16 + 8 + 7) ∷ [])) (b .1) (ofClosing (b .0) (not-fifteen n _ (b .1) h) (b .2)))
+    simp (lt-ltb n 15 h) (subst (λ (x : ℕ). IsTag (tag (closing x) 0) ((n * 16 + 8 + 7) ∷ [])) (b .1) (ofClosing (b .0) (subst (λ (x : ℕ). x < 15) (sym (b .1)) h) (b .2)))
 
 pub header-is-tag : (n : Number) (v : ℕ) → InRange n v → IsTag (tag n v) (tagBytes (tag n v))
 unfolding tagBytes

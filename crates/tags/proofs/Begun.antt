@@ -1,6 +1,6 @@
 -- A tag whose content is to follow: what is written of it, and what is written where nothing follows.
 -- Assumes nothing.
-use mathlib.Core.Path.{_≡_, refl, ap, sym}
+use mathlib.Core.Path.{_≡_, refl, ap}
 use mathlib.Core.Bool.{true}
 use Prim.Native.Nat.{ℕ, _+_, _-_, _≤_, _<_}
 use native.Mathlib.Nat.{add-zero}
@@ -9,11 +9,10 @@ use mathlib.Core.List.{List, [], _∷_}
 use lib.ListN.{length, set}
 use borrow.Author.Tests.{le-ltb}
 use Rattle.types.specs.Tag.{Tag}
-use Rattle.types.specs.Answer.{Answer, accepted, refused}
-use Rattle.types.specs.Writing.{left, over, can, settled, writeAnswer, writing}
-use Rattle.tags.specs.Writing.{tagBytes, tagValueAllowed, writableTag, begun, tagTo, tagBefore}
+use Rattle.types.specs.Answer.{accepted}
+use Rattle.types.specs.Writing.{left, can, writeAnswer, writing}
+use Rattle.tags.specs.Writing.{tagBytes, tagValueAllowed, tagTo, tagBefore}
 use Rattle.tags.specs.Held.{oneBefore}
-use Rattle.numbers.proofs.Inside.{Room, write-room}
 use Rattle.numbers.proofs.Over.{one-replaced}
 use Rattle.tags.proofs.Held.{header-short}
 
@@ -27,16 +26,10 @@ begun-written t content bytes xs place e small inside value room =
     let r : place + length (tagBytes t) ≤ length xs = omega arith in
     simp (le-ltb 65535 (length xs) small, le-ltb 65535 (length (tagBytes t)) s, le-ltb (length xs) place inside, value, le-ltb (length xs) (place + length (tagBytes t)) r, le-ltb (length xs) (place + (length (tagBytes t) + content)) room))
 
--- a write of bytes, where none are to follow
-alone : (bytes xs : List ℕ) (place : ℕ) (a : Answer (Unit {0})) → Room (length bytes) xs place a → begun bytes xs place a ≡ settled bytes xs place a
-alone bytes xs place (accepted u next) r = ap (λ (p : ℕ). left (accepted tt p) (over xs place bytes)) (sym (r .0))
-alone bytes xs place (refused n c) r = refl
-
+-- where no content follows, it is the tag's own write
 pub begun-alone : (t : Tag) (xs : List ℕ) (place : ℕ) → tagBefore t 0 xs place ≡ tagTo t xs place
 unfolding tagBefore tagTo writing
-begun-alone t xs place =
-    rw (add-zero (length (tagBytes t)))
-    (alone (tagBytes t) xs place (writeAnswer 0 (writableTag t) (length (tagBytes t)) xs place) (write-room 0 (writableTag t) (length (tagBytes t)) xs place))
+begun-alone t xs place = rw (add-zero (length (tagBytes t))) refl
 
 -- a tag of one byte, which can be written
 pub short-before : (t : Tag) (b content : ℕ) (xs : List ℕ) (place : ℕ) → (tagBytes t ≡ b ∷ []) × (tagValueAllowed t ≡ true) → oneBefore b content xs place ≡ tagBefore t content xs place

@@ -1,7 +1,7 @@
 -- A tag is read exactly where its bytes stand: the executable and the declarative definition agree, for every byte list.
 -- Assumes nothing.
 use mathlib.Core.Path.{_≡_, refl, _∙_, ap, sym, subst}
-use Prim.Native.Nat.{ℕ, suc, _+_, _-_, _/_, _%_, _<_, _≤_}
+use Prim.Native.Nat.{ℕ, suc, _+_, _-_, _<_, _≤_}
 use native.Mathlib.Nat.{add-zero}
 use native.Mathlib.Omega.{arith}
 use mathlib.Core.List.{List, [], _∷_, _++_}
@@ -17,12 +17,13 @@ use Rattle.numbers.specs.Integer.{unsignedValue}
 use Rattle.numbers.specs.Reading.{byteFrom, fixedFrom}
 use Rattle.numbers.proofs.Found.{ByteFound, byte-found, byte-at, fixed-found, fixed-at, behind}
 use Rattle.tags.specs.Reading.{numberFrom, tagValueFrom, tagAfter, tagFrom}
-use Rattle.tags.specs.Header.{Tells, inline, one, two, four, none, IsTag, ofApplication, ofLongContext, ofContext, ofOpening, ofClosing}
+use Rattle.tags.specs.Header.{classBit, numberField, lowBits, TellsValue, inline, one, two, four, none, IsTag, ofApplication, ofLongContext, ofContext, ofOpening, ofClosing}
+use Rattle.tags.specs.Writing.{Valueless}
 
 -- a value that was read: the bytes that stand there tell it
 record ValueFound (low : ℕ) (xs : List ℕ) (place v next : ℕ) : Type 0 where
   bytes : List ℕ
-  tells : Tells low v bytes
+  tells : TellsValue low v bytes
   here : drop place xs ≡ bytes ++ drop next xs
   ends : next ≡ place + length bytes
   inside : next ≤ length xs
@@ -32,13 +33,13 @@ ValueOr low xs place (accepted v next) = ValueFound low xs place v next
 ValueOr low xs place (refused n c) = Unit {0}
 
 -- a marker, and as many bytes as it says
-module _ (xs : List ℕ) (place next marker n : ℕ) (f : ByteFound xs place marker next) (told : (bytes : List ℕ) → length bytes ≡ n → Tells 5 (unsignedValue bytes) (marker ∷ bytes)) where
+module _ (xs : List ℕ) (place next marker n : ℕ) (f : ByteFound xs place marker next) (told : (bytes : List ℕ) → length bytes ≡ n → TellsValue 5 (unsignedValue bytes) (marker ∷ bytes)) where
   marked : (a : Answer ℕ) → fixedFrom n xs next ≡ a → ValueOr 5 xs place a
   marked (accepted v after) e =
       let g = fixed-found n xs next v after e in
       record {
         bytes = marker ∷ g .bytes;
-        tells = subst (λ (x : ℕ). Tells 5 x (marker ∷ g .bytes)) (sym (g .stands)) (told (g .bytes) (g .sized));
+        tells = subst (λ (x : ℕ). TellsValue 5 x (marker ∷ g .bytes)) (sym (g .stands)) (told (g .bytes) (g .sized));
         here = f .here ∙ ap (λ (t : List ℕ). marker ∷ t) (g .here);
         ends = omega (arith, f .ends, g .ends, g .sized);
         inside = g .inside;
@@ -68,11 +69,11 @@ value-found low xs place l =
 
 -- the class and number that a first byte tells, with where they end
 data NumberFound (first : ℕ) (xs : List ℕ) (place : ℕ) : Number → ℕ → Type 0 where
-  is-application : first / 8 % 2 ≡ 0 → NumberFound first xs place (application (first / 16)) place
-  is-long : {n next : ℕ} → first / 8 % 2 ≡ 1 → first / 16 ≡ 15 → ByteFound xs place n next → NumberFound first xs place (context n) next
-  is-opening : first / 8 % 2 ≡ 1 → (first / 16 ≡ 15 → ⊥) → first % 8 ≡ 6 → NumberFound first xs place (opening (first / 16)) place
-  is-closing : first / 8 % 2 ≡ 1 → (first / 16 ≡ 15 → ⊥) → first % 8 ≡ 7 → NumberFound first xs place (closing (first / 16)) place
-  is-context : first / 8 % 2 ≡ 1 → (first / 16 ≡ 15 → ⊥) → first % 8 < 6 → NumberFound first xs place (context (first / 16)) place
+  is-application : classBit first ≡ 0 → NumberFound first xs place (application (numberField first)) place
+  is-long : {n next : ℕ} → classBit first ≡ 1 → 15 ≤ numberField first → ByteFound xs place n next → NumberFound first xs place (context n) next
+  is-opening : classBit first ≡ 1 → numberField first < 15 → lowBits first ≡ 6 → NumberFound first xs place (opening (numberField first)) place
+  is-closing : classBit first ≡ 1 → numberField first < 15 → lowBits first ≡ 7 → NumberFound first xs place (closing (numberField first)) place
+  is-context : classBit first ≡ 1 → numberField first < 15 → lowBits first < 6 → NumberFound first xs place (context (numberField first)) place
 
 abbrev NumberOr : ℕ → List ℕ → ℕ → Answer Number → Type 0
 NumberOr first xs place (accepted n next) = NumberFound first xs place n next
@@ -81,17 +82,17 @@ NumberOr first xs place (refused k c) = Unit {0}
 number-found : (first : ℕ) (xs : List ℕ) (place : ℕ) → NumberOr first xs place (numberFrom first xs place)
 unfolding numberFrom
 number-found first xs place =
-    either (NumberOr first xs place) (eqb (first / 8 % 2) 0) (λ e. is-application (eqb-true _ _ e)) (λ e.
-    let g : first / 8 % 2 ≡ 0 → ⊥ = eqb-false _ _ e in
-    let c : first / 8 % 2 ≡ 1 = omega arith in
-    either (NumberOr first xs place) (eqb (first / 16) 15)
-    (λ f. read-on (NumberOr first xs place) (byteFrom xs place) (λ n next h. is-long c (eqb-true _ _ f) (byte-found xs place n next h)) (λ k d h. tt))
-    (λ f. let m : first / 16 ≡ 15 → ⊥ = eqb-false _ _ f in
-    either (NumberOr first xs place) (eqb (first % 8) 6) (λ h. is-opening c m (eqb-true _ _ h)) (λ h.
-    either (NumberOr first xs place) (eqb (first % 8) 7) (λ k. is-closing c m (eqb-true _ _ k)) (λ k.
-    let h6 : first % 8 ≡ 6 → ⊥ = eqb-false _ _ h in
-    let h7 : first % 8 ≡ 7 → ⊥ = eqb-false _ _ k in
-    is-context c m (omega arith)))))
+    either (NumberOr first xs place) (eqb (classBit first) 0) (λ e. is-application (eqb-true _ _ e)) (λ e.
+    let g : classBit first ≡ 0 → ⊥ = eqb-false _ _ e in
+    let c : classBit first ≡ 1 = omega arith in
+    either (NumberOr first xs place) (ltb (numberField first) 15)
+    (λ f. let m : numberField first < 15 = ltb-true _ _ f in
+    either (NumberOr first xs place) (eqb (lowBits first) 6) (λ h. is-opening c m (eqb-true _ _ h)) (λ h.
+    either (NumberOr first xs place) (eqb (lowBits first) 7) (λ k. is-closing c m (eqb-true _ _ k)) (λ k.
+    let h6 : lowBits first ≡ 6 → ⊥ = eqb-false _ _ h in
+    let h7 : lowBits first ≡ 7 → ⊥ = eqb-false _ _ k in
+    is-context c m (omega arith))))
+    (λ f. read-on (NumberOr first xs place) (byteFrom xs place) (λ n next h. is-long c (ltb-false _ _ f) (byte-found xs place n next h)) (λ k d h. tt)))
 
 -- a number takes one byte more at the most, inside the buffer
 number-within : {first : ℕ} {xs : List ℕ} {place : ℕ} {n : Number} {next : ℕ} → NumberFound first xs place n next → place ≤ length xs → (next ≤ place + 1) × (next ≤ length xs)
@@ -105,7 +106,7 @@ pub number-ends : (first : ℕ) (xs : List ℕ) (place : ℕ) (n : Number) (next
 number-ends first xs place n next e l = number-within (subst (NumberOr first xs place) e (number-found first xs place)) l
 
 -- low bits above 5 tell 0, with no bytes
-none-told : {low v : ℕ} {bytes : List ℕ} → Tells low v bytes → 5 < low → (v ≡ 0) × (bytes ≡ [])
+none-told : {low v : ℕ} {bytes : List ℕ} → TellsValue low v bytes → 5 < low → (v ≡ 0) × (bytes ≡ [])
 none-told (inline h) l = absurd (omega arith)
 none-told (one h k) l = absurd (omega arith)
 none-told (two bytes h) l = absurd (omega arith)
@@ -127,7 +128,7 @@ TagOr xs place (refused n c) = Unit {0}
 
 module _ (first : ℕ) (xs : List ℕ) (place p : ℕ) (f : ByteFound xs place first p) where
   -- the first byte, and then the value's bytes
-  short : (t : Tag) (v next : ℕ) (w : ValueFound (first % 8) xs p v next) → IsTag t (first ∷ w .bytes) → TagFound xs place t next
+  short : (t : Tag) (v next : ℕ) (w : ValueFound (lowBits first) xs p v next) → IsTag t (first ∷ w .bytes) → TagFound xs place t next
   short t v next w i = record {
     bytes = first ∷ w .bytes;
     is-tag = i;
@@ -137,12 +138,12 @@ module _ (first : ℕ) (xs : List ℕ) (place p : ℕ) (f : ByteFound xs place f
     small = f .small;
   }
 
-  bare : (t : Tag) (v next : ℕ) → ValueFound (first % 8) xs p v next → 5 < first % 8 → IsTag (tag (t .number) 0) (first ∷ []) → TagFound xs place (tag (t .number) v) next
+  bare : (t : Tag) (v next : ℕ) → ValueFound (lowBits first) xs p v next → 5 < lowBits first → IsTag (tag (t .number) 0) (first ∷ []) → TagFound xs place (tag (t .number) v) next
   bare t v next w l i =
       let z = none-told (w .tells) l in
       short (tag (t .number) v) v next w (subst (λ (bs : List ℕ). IsTag (tag (t .number) v) (first ∷ bs)) (sym (z .1)) (subst (λ (x : ℕ). IsTag (tag (t .number) x) (first ∷ [])) (sym (z .0)) i))
 
-  joined : (n : Number) (after v next : ℕ) → NumberFound first xs p n after → ValueFound (first % 8) xs after v next → TagFound xs place (tag n v) next
+  joined : (n : Number) (after v next : ℕ) → NumberFound first xs p n after → ValueFound (lowBits first) xs after v next → TagFound xs place (tag n v) next
   joined _ _ v next (is-application c) w = short _ v next w (ofApplication c (w .tells))
   joined _ _ v next (is-long {n} c m g) w = record {
     bytes = first ∷ n ∷ w .bytes;
@@ -152,8 +153,8 @@ module _ (first : ℕ) (xs : List ℕ) (place p : ℕ) (f : ByteFound xs place f
     inside = w .inside;
     small = f .small;
   }
-  joined _ _ v next (is-opening c m h) w = bare (tag (opening (first / 16)) 0) v next w (omega arith) (ofOpening c m h)
-  joined _ _ v next (is-closing c m h) w = bare (tag (closing (first / 16)) 0) v next w (omega arith) (ofClosing c m h)
+  joined _ _ v next (is-opening c m h) w = bare (tag (opening (numberField first)) 0) v next w (omega arith) (ofOpening c m h)
+  joined _ _ v next (is-closing c m h) w = bare (tag (closing (numberField first)) 0) v next w (omega arith) (ofClosing c m h)
   joined _ _ v next (is-context c m h) w = short _ v next w (ofContext c m h (w .tells))
 
   after-found : TagOr xs place (tagAfter first xs p)
@@ -162,8 +163,8 @@ module _ (first : ℕ) (xs : List ℕ) (place p : ℕ) (f : ByteFound xs place f
       read-on (TagOr xs place) (numberFrom first xs p)
       (λ n after e.
       let m : NumberFound first xs p n after = subst (NumberOr first xs p) e (number-found first xs p) in
-      read-on (TagOr xs place) (tagValueFrom (first % 8) xs after)
-      (λ v next g. joined n after v next m (subst (ValueOr (first % 8) xs after) g (value-found (first % 8) xs after (number-within m (omega (arith, f .inside, f .ends)) .1))))
+      read-on (TagOr xs place) (tagValueFrom (lowBits first) xs after)
+      (λ v next g. joined n after v next m (subst (ValueOr (lowBits first) xs after) g (value-found (lowBits first) xs after (number-within m (omega (arith, f .inside, f .ends)) .1))))
       (λ k c g. tt))
       (λ k c e. tt)
 
@@ -176,7 +177,7 @@ tag-found xs place t next e =
 
 module _ (xs : List ℕ) (small : length xs ≤ 65535) where
   -- a value's bytes are read as the value
-  value-read : {low v : ℕ} {bytes : List ℕ} → Tells low v bytes → (place : ℕ) (rest : List ℕ) → place ≤ length xs → drop place xs ≡ bytes ++ rest → tagValueFrom low xs place ≡ accepted v (place + length bytes)
+  value-read : {low v : ℕ} {bytes : List ℕ} → TellsValue low v bytes → (place : ℕ) (rest : List ℕ) → place ≤ length xs → drop place xs ≡ bytes ++ rest → tagValueFrom low xs place ≡ accepted v (place + length bytes)
   unfolding tagValueFrom
   value-read (inline {low} h) place rest l e = simp (lt-ltb low 5 h, add-zero)
   value-read (one {b} h k) place rest l e = simp (byte-at xs place b rest small e, ne-eqb b 254 h, ne-eqb b 255 k)
@@ -195,7 +196,7 @@ module _ (xs : List ℕ) (small : length xs ≤ 65535) where
   value-read (none {low} h) place rest l e = simp (le-ltb low 5 (omega arith), ne-eqb low 5 (omega arith), add-zero)
 
   -- the rest of a tag, where its number is read and its value's bytes follow
-  after-read : (first p after v : ℕ) (n : Number) (bytes rest : List ℕ) → numberFrom first xs p ≡ accepted n after → Tells (first % 8) v bytes → after ≤ length xs → drop after xs ≡ bytes ++ rest
+  after-read : (first p after v : ℕ) (n : Number) (bytes rest : List ℕ) → numberFrom first xs p ≡ accepted n after → TellsValue (lowBits first) v bytes → after ≤ length xs → drop after xs ≡ bytes ++ rest
       → tagAfter first xs p ≡ accepted (tag n v) (after + length bytes)
   unfolding tagAfter
   after-read first p after v n bytes rest e w l d = simp (e, value-read w after rest l d)
@@ -206,28 +207,28 @@ module _ (xs : List ℕ) (small : length xs ≤ 65535) where
 
   -- what a first byte tells, class by class
   module _ (first p : ℕ) where
-    number-application : first / 8 % 2 ≡ 0 → numberFrom first xs p ≡ accepted (application (first / 16)) p
+    number-application : classBit first ≡ 0 → numberFrom first xs p ≡ accepted (application (numberField first)) p
     unfolding numberFrom
     number-application c = simp (eq-eqb _ _ c)
 
-    number-long : (n : ℕ) (rest : List ℕ) → first / 8 % 2 ≡ 1 → first / 16 ≡ 15 → drop p xs ≡ n ∷ rest → numberFrom first xs p ≡ accepted (context n) (p + 1)
+    number-long : (n : ℕ) (rest : List ℕ) → classBit first ≡ 1 → 15 ≤ numberField first → drop p xs ≡ n ∷ rest → numberFrom first xs p ≡ accepted (context n) (p + 1)
     unfolding numberFrom
-    number-long n rest c m e = simp (c, m, byte-at xs p n rest small e)
+    number-long n rest c m e = simp (c, le-ltb _ _ m, byte-at xs p n rest small e)
 
-    number-opening : first / 8 % 2 ≡ 1 → (first / 16 ≡ 15 → ⊥) → first % 8 ≡ 6 → numberFrom first xs p ≡ accepted (opening (first / 16)) p
+    number-opening : classBit first ≡ 1 → numberField first < 15 → lowBits first ≡ 6 → numberFrom first xs p ≡ accepted (opening (numberField first)) p
     unfolding numberFrom
-    number-opening c m h = simp (c, ne-eqb _ _ m, h)
+    number-opening c m h = simp (c, lt-ltb _ _ m, h)
 
-    number-closing : first / 8 % 2 ≡ 1 → (first / 16 ≡ 15 → ⊥) → first % 8 ≡ 7 → numberFrom first xs p ≡ accepted (closing (first / 16)) p
+    number-closing : classBit first ≡ 1 → numberField first < 15 → lowBits first ≡ 7 → numberFrom first xs p ≡ accepted (closing (numberField first)) p
     unfolding numberFrom
-    number-closing c m h = simp (c, ne-eqb _ _ m, h)
+    number-closing c m h = simp (c, lt-ltb _ _ m, h)
 
-    number-context : first / 8 % 2 ≡ 1 → (first / 16 ≡ 15 → ⊥) → first % 8 < 6 → numberFrom first xs p ≡ accepted (context (first / 16)) p
+    number-context : classBit first ≡ 1 → numberField first < 15 → lowBits first < 6 → numberFrom first xs p ≡ accepted (context (numberField first)) p
     unfolding numberFrom
-    number-context c m h = simp (c, ne-eqb _ _ m, ne-eqb (first % 8) 6 (omega arith), ne-eqb (first % 8) 7 (omega arith))
+    number-context c m h = simp (c, lt-ltb _ _ m, ne-eqb (lowBits first) 6 (omega arith), ne-eqb (lowBits first) 7 (omega arith))
 
   -- a tag of one byte and its value's bytes
-  short-read : (first place v : ℕ) (n : Number) (bytes rest : List ℕ) → ((p : ℕ) → numberFrom first xs p ≡ accepted n p) → Tells (first % 8) v bytes → drop place xs ≡ first ∷ (bytes ++ rest)
+  short-read : (first place v : ℕ) (n : Number) (bytes rest : List ℕ) → ((p : ℕ) → numberFrom first xs p ≡ accepted n p) → TellsValue (lowBits first) v bytes → drop place xs ≡ first ∷ (bytes ++ rest)
       → tagFrom xs place ≡ accepted (tag n v) (place + suc (length bytes))
   short-read first place v n bytes rest number w e =
       let l : place + 1 ≤ length xs = omega (arith, length-drop place xs, ap length e) in
@@ -249,7 +250,7 @@ module _ (xs : List ℕ) (small : length xs ≤ 65535) where
   tag-read place _ _ rest e (ofClosing {first} c m h) = short-read first place 0 _ [] rest (λ p. number-closing first p c m h) (none (omega arith)) e
 
 -- a tag has one to seven bytes
-told-length : {low v : ℕ} {bytes : List ℕ} → Tells low v bytes → length bytes ≤ 5
+told-length : {low v : ℕ} {bytes : List ℕ} → TellsValue low v bytes → length bytes ≤ 5
 told-length (inline h) = omega arith
 told-length (one h k) = omega arith
 told-length (two bytes h) = omega arith
@@ -278,13 +279,7 @@ same-elsewhere xs place t next e before rest small =
     tag-read (before ++ (f .bytes ++ rest)) small (length before) t (f .bytes) rest (drop-at before (f .bytes ++ rest) (length before) refl) (f .is-tag)
     ∙ ap (accepted t) (let z : length before + length (f .bytes) ≡ length before + (next - place) = omega (arith, f .ends) in z)
 
--- the value of an opening or of a closing is 0
-abbrev pub Valueless : Number → ℕ → Type 0
-Valueless (application n) v = Unit {0}
-Valueless (context n) v = Unit {0}
-Valueless (opening n) v = v ≡ 0
-Valueless (closing n) v = v ≡ 0
-
+-- an opening and a closing that bytes carry have the value 0
 pub block-has-no-value : {t : Tag} {bytes : List ℕ} → IsTag t bytes → Valueless (t .number) (t .value)
 block-has-no-value (ofApplication c w) = tt
 block-has-no-value (ofLongContext c m w) = tt

@@ -11,7 +11,7 @@ use lib.Dec.{ltb, lit≤}
 use Rattle.types.specs.Choice.{if}
 use Rattle.numbers.specs.Integer.{lowBytes}
 use Rattle.types.specs.Tag.{Number, application, context, opening, closing, Tag}
-use Rattle.tags.specs.Writing.{lowBits, tagValueBytes, contextBytes, numberBytes, tagBytes}
+use Rattle.tags.specs.Writing.{lowBitsFor, tagValueBytes, contextBytes, numberBytes, tagBytes}
 use Rattle.tags.specs.Held.{pad, holding, pushed, pushes}
 use Rattle.tags.specs.declared.header.Header.{Header}
 
@@ -68,7 +68,7 @@ header-short t = go (t .number)
   where
     go : (n : Number) → length (numberBytes n (t .value)) ≤ 7
     go (application n) = omega (arith, value-short (t .value))
-    go (context n) = omega (arith, value-short (t .value), context-short n (lowBits (t .value)), length-append (contextBytes n (lowBits (t .value))) (tagValueBytes (t .value)))
+    go (context n) = omega (arith, value-short (t .value), context-short n (lowBitsFor (t .value)), length-append (contextBytes n (lowBitsFor (t .value))) (tagValueBytes (t .value)))
     go (opening n) = omega (arith, context-short n 6)
     go (closing n) = omega (arith, context-short n 7)
 

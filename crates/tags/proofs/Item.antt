@@ -16,7 +16,7 @@ use Rattle.types.specs.declared.written.Written.{Written}
 use Rattle.types.specs.declared.written.Written.the-variants as w
 use Rattle.numbers.proofs.Inside.{Room, write-room}
 use Rattle.numbers.proofs.Wrote.{over-length, write-fits}
-use Rattle.tags.specs.Writing.{tagBytes, writableTag, begun, tagBefore}
+use Rattle.tags.specs.Writing.{tagBytes, writableTag, tagBefore}
 use Rattle.tags.specs.Item.{itemTo}
 
 -- content written behind the first bytes of an item, where those were written
@@ -40,9 +40,9 @@ module _ (bytes content xs : List ℕ) (place : ℕ) (fits : place + (length byt
 
 -- the first bytes and then the content, by the one answer that both have
 pub by-parts : (bytes content xs : List ℕ) (place : ℕ) (a : Answer (Unit {0})) → Room (length bytes + length content) xs place a
-    → settled (bytes ++ content) xs place a ≡ followed content (begun bytes xs place a .buffer) (begun bytes xs place a .answer)
+    → settled (bytes ++ content) xs place a ≡ followed content (settled bytes xs place a .buffer) (settled bytes xs place a .answer)
 by-parts bytes content xs place (accepted u next) r =
-    let e : next ≡ place + length bytes + length content = omega (arith, r .0) in
+    let e : place + length (bytes ++ content) ≡ place + length bytes + length content = omega (arith, length-append bytes content) in
     λ i. left (accepted tt (e i)) (over-then bytes content xs place (r .1) i)
 by-parts bytes content xs place (refused n c) r = refl
 
@@ -55,7 +55,7 @@ BegunRoom content ys (accepted u next) = RoomFor content ys next
 BegunRoom content ys (refused n c) = Unit {0}
 
 room-left : (bytes : List ℕ) (content : ℕ) (xs : List ℕ) (place : ℕ) (a : Answer (Unit {0})) → Room (length bytes + content) xs place a
-    → BegunRoom content (begun bytes xs place a .buffer) (begun bytes xs place a .answer)
+    → BegunRoom content (settled bytes xs place a .buffer) (settled bytes xs place a .answer)
 room-left bytes content xs place (accepted u next) r =
     let l : length (over xs place bytes) ≡ length xs = over-length bytes xs place (omega (arith, r .1)) in
     (omega (arith, r .1), omega (arith, r .2))

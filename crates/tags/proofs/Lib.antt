@@ -8,3 +8,6 @@ pub mod Range
 pub mod Back
 pub mod Single
 pub mod Examples
+pub mod Form
+pub mod Accepted
+pub mod Untouched

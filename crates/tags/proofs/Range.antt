@@ -1,7 +1,7 @@
 -- Which tags bytes can carry, and that a tag is read or the bytes run out.
 -- Assumes nothing.
 use mathlib.Core.Path.{_≡_, refl, subst}
-use Prim.Native.Nat.{ℕ, suc, _+_, _/_, _%_, _^_, _<_, _≤_}
+use Prim.Native.Nat.{ℕ, suc, _+_, _^_, _<_, _≤_}
 use native.Mathlib.Omega.{arith}
 use mathlib.Core.Bool.{Bool, true, false}
 use mathlib.Core.List.{List, _++_}
@@ -18,7 +18,7 @@ use Rattle.numbers.specs.Reading.{byteFrom, partAt, bytesIn, sliceFrom, fixedFr
 use Rattle.numbers.proofs.Value.{value-lt}
 use Rattle.numbers.proofs.Found.{byte-found}
 use Rattle.tags.specs.Reading.{numberFrom, tagValueFrom, tagAfter, tagFrom}
-use Rattle.tags.specs.Header.{Tells, inline, one, two, four, none, IsTag, ofApplication, ofLongContext, ofContext, ofOpening, ofClosing}
+use Rattle.tags.specs.Header.{classBit, numberField, lowBits, TellsValue, inline, one, two, four, none, IsTag, ofApplication, ofLongContext, ofContext, ofOpening, ofClosing}
 use Rattle.tags.proofs.Exactly.{number-ends, tag-read}
 
 -- a tag that bytes can carry: an application number of four bits, a context number of a byte, a block number below 15 with no value, a value of 32 bits
@@ -28,7 +28,7 @@ InRange (context n) v = (n < 256) × (v < 2 ^ 32)
 InRange (opening n) v = (n < 15) × (v ≡ 0)
 InRange (closing n) v = (n < 15) × (v ≡ 0)
 
-told-range : {low v : ℕ} {bytes : List ℕ} → Tells low v bytes → Bytes bytes → v < 2 ^ 32
+told-range : {low v : ℕ} {bytes : List ℕ} → TellsValue low v bytes → Bytes bytes → v < 2 ^ 32
 told-range (inline h) b = omega arith
 told-range (one h k) b = omega (arith, b 0)
 told-range (two bytes h) b = omega (arith, rw h at (value-lt bytes (λ i. b (suc i))))
@@ -40,8 +40,8 @@ pub in-range : {t : Tag} {bytes : List ℕ} → IsTag t bytes → Bytes bytes �
 in-range (ofApplication c w) b = (omega (arith, b 0), told-range w (λ i. b (suc i)))
 in-range (ofLongContext c m w) b = (b 1, told-range w (λ i. b (suc (suc i))))
 in-range (ofContext c m h w) b = (omega (arith, b 0), told-range w (λ i. b (suc i)))
-in-range (ofOpening {first} c m h) b = (let k : first < 256 = b 0 in omega arith, refl)
-in-range (ofClosing {first} c m h) b = (let k : first < 256 = b 0 in omega arith, refl)
+in-range (ofOpening c m h) b = (m, refl)
+in-range (ofClosing c m h) b = (m, refl)
 
 -- a refusal of a read is 3, and carries the buffer's end or a place past it, at most so far
 pub record RunsOut (xs : List ℕ) (most n : ℕ) (c : Carried) : Type 0 where
@@ -98,10 +98,10 @@ module _ (xs : List ℕ) (small : length xs ≤ 65535) where
   number-or : (first place : ℕ) → place ≤ length xs → OrRunsOut xs place (numberFrom first xs place)
   unfolding numberFrom
   number-or first place l =
-      either (OrRunsOut xs place) (eqb (first / 8 % 2) 0) (λ e. tt) (λ e.
-      either (OrRunsOut xs place) (eqb (first / 16) 15)
-      (λ f. read-on (OrRunsOut xs place) (byteFrom xs place) (λ n next g. tt) (λ n c g. subst (OrRunsOut xs place) g (byte-or place l)))
-      (λ f. either (OrRunsOut xs place) (eqb (first % 8) 6) (λ g. tt) (λ g. either (OrRunsOut xs place) (eqb (first % 8) 7) (λ h. tt) (λ h. tt))))
+      either (OrRunsOut xs place) (eqb (classBit first) 0) (λ e. tt) (λ e.
+      either (OrRunsOut xs place) (ltb (numberField first) 15)
+      (λ f. either (OrRunsOut xs place) (eqb (lowBits first) 6) (λ g. tt) (λ g. either (OrRunsOut xs place) (eqb (lowBits first) 7) (λ h. tt) (λ h. tt)))
+      (λ f. read-on (OrRunsOut xs place) (byteFrom xs place) (λ n next g. tt) (λ n c g. subst (OrRunsOut xs place) g (byte-or place l))))
 
   after-or : (first place : ℕ) → place ≤ length xs → OrRunsOut xs (place + 6) (tagAfter first xs place)
   unfolding tagAfter
@@ -109,8 +109,8 @@ module _ (xs : List ℕ) (small : length xs ≤ 65535) where
       read-on (OrRunsOut xs (place + 6)) (numberFrom first xs place)
       (λ n after e.
       let m = number-ends first xs place n after e l in
-      read-on (OrRunsOut xs (place + 6)) (tagValueFrom (first % 8) xs after) (λ v next f. tt)
-      (λ k c f. further xs (omega arith) (subst (OrRunsOut xs (after + 5)) f (value-or (first % 8) after (m .1)))))
+      read-on (OrRunsOut xs (place + 6)) (tagValueFrom (lowBits first) xs after) (λ v next f. tt)
+      (λ k c f. further xs (omega arith) (subst (OrRunsOut xs (after + 5)) f (value-or (lowBits first) after (m .1)))))
       (λ k c e. further xs (omega arith) (subst (OrRunsOut xs place) e (number-or first place l)))
 
   -- at every place of a buffer a tag is read, or its bytes run out: 3, carrying the end or a place past it, at most seven bytes on

@@ -1,24 +1,39 @@
 -- A tag's bytes, said and not computed (ASHRAE 135, 20.2.1, as 01 restates it): which bytes are one whole tag and nothing more.
 -- Assumes nothing.
-use Prim.Native.Nat.{ℕ, _/_, _%_, _<_}
+use Prim.Native.Nat.{ℕ, _/_, _%_, _<_, _≤_}
 use mathlib.Core.Path.{_≡_}
 use mathlib.Core.List.{List, [], _∷_}
 use lib.ListN.{length}
 use Rattle.types.specs.Tag.{application, context, opening, closing, Tag, tag}
 use Rattle.numbers.specs.Integer.{unsignedValue}
 
--- low bits, the value that they tell, and the bytes that follow for it
-pub data Tells : ℕ → ℕ → List ℕ → Type 0 where
-  inline : {low : ℕ} → low < 5 → Tells low low []
-  one : {b : ℕ} → (b ≡ 254 → ⊥) → (b ≡ 255 → ⊥) → Tells 5 b (b ∷ [])
-  two : (bytes : List ℕ) → length bytes ≡ 2 → Tells 5 (unsignedValue bytes) (254 ∷ bytes)
-  four : (bytes : List ℕ) → length bytes ≡ 4 → Tells 5 (unsignedValue bytes) (255 ∷ bytes)
-  none : {low : ℕ} → 5 < low → Tells low 0 []
+-- bit 3 of a tag's first byte, its class: 0 is application, 1 context (20.2.1.1)
+abbrev pub classBit : ℕ → ℕ
+classBit first = first / 8 % 2
 
--- bytes that are one whole tag: the class is bit 3 of the first, the number its bits 7 to 4
+-- bits 7 to 4, its number field, which is at most 15 in a byte (20.2.1.2)
+abbrev pub numberField : ℕ → ℕ
+numberField first = first / 16
+
+-- the three low bits, its length, value or type (20.2.1.3)
+abbrev pub lowBits : ℕ → ℕ
+lowBits first = first % 8
+
+-- low bits, the value that they tell, and the bytes that follow for it (20.2.1.3.1)
+pub data TellsValue : ℕ → ℕ → List ℕ → Type 0 where
+  inline : {low : ℕ} → low < 5 → TellsValue low low []
+  one : {b : ℕ} → (b ≡ 254 → ⊥) → (b ≡ 255 → ⊥) → TellsValue 5 b (b ∷ [])
+  two : (bytes : List ℕ) → length bytes ≡ 2 → TellsValue 5 (unsignedValue bytes) (254 ∷ bytes)
+  four : (bytes : List ℕ) → length bytes ≡ 4 → TellsValue 5 (unsignedValue bytes) (255 ∷ bytes)
+  none : {low : ℕ} → 5 < low → TellsValue low 0 []
+
+-- bytes that are one whole tag (20.2.1.4, 20.2.1.5; 20.2.1.3.2 for those that open and close): in context class a field of 15 says that the number is the second byte
 pub data IsTag : Tag → List ℕ → Type 0 where
-  ofApplication : {first v : ℕ} {bytes : List ℕ} → first / 8 % 2 ≡ 0 → Tells (first % 8) v bytes → IsTag (tag (application (first / 16)) v) (first ∷ bytes)
-  ofLongContext : {first n v : ℕ} {bytes : List ℕ} → first / 8 % 2 ≡ 1 → first / 16 ≡ 15 → Tells (first % 8) v bytes → IsTag (tag (context n) v) (first ∷ n ∷ bytes)
-  ofContext : {first v : ℕ} {bytes : List ℕ} → first / 8 % 2 ≡ 1 → (first / 16 ≡ 15 → ⊥) → first % 8 < 6 → Tells (first % 8) v bytes → IsTag (tag (context (first / 16)) v) (first ∷ bytes)
-  ofOpening : {first : ℕ} → first / 8 % 2 ≡ 1 → (first / 16 ≡ 15 → ⊥) → first % 8 ≡ 6 → IsTag (tag (opening (first / 16)) 0) (first ∷ [])
-  ofClosing : {first : ℕ} → first / 8 % 2 ≡ 1 → (first / 16 ≡ 15 → ⊥) → first % 8 ≡ 7 → IsTag (tag (closing (first / 16)) 0) (first ∷ [])
+  ofApplication : {first v : ℕ} {bytes : List ℕ} → classBit first ≡ 0
+      → TellsValue (lowBits first) v bytes → IsTag (tag (application (numberField first)) v) (first ∷ bytes)
+  ofLongContext : {first n v : ℕ} {bytes : List ℕ} → classBit first ≡ 1 → 15 ≤ numberField first
+      → TellsValue (lowBits first) v bytes → IsTag (tag (context n) v) (first ∷ n ∷ bytes)
+  ofContext : {first v : ℕ} {bytes : List ℕ} → classBit first ≡ 1 → numberField first < 15 → lowBits first < 6
+      → TellsValue (lowBits first) v bytes → IsTag (tag (context (numberField first)) v) (first ∷ bytes)
+  ofOpening : {first : ℕ} → classBit first ≡ 1 → numberField first < 15 → lowBits first ≡ 6 → IsTag (tag (opening (numberField first)) 0) (first ∷ [])
+  ofClosing : {first : ℕ} → classBit first ≡ 1 → numberField first < 15 → lowBits first ≡ 7 → IsTag (tag (closing (numberField first)) 0) (first ∷ [])

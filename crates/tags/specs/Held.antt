@@ -6,8 +6,8 @@ use Prim.Native.Nat.{ℕ, zero, suc, _+_}
 use mathlib.Core.List.{List, [], _∷_}
 use lib.ListN.{length, getD, set}
 use Rattle.types.specs.Tag.{Tag}
-use Rattle.types.specs.Writing.{Left, can, writeAnswer}
-use Rattle.tags.specs.Writing.{tagBytes, tagValueAllowed, begun}
+use Rattle.types.specs.Writing.{Left, can, settled, writeAnswer}
+use Rattle.tags.specs.Writing.{tagBytes, tagValueAllowed}
 use Rattle.tags.specs.declared.header.Header.{Header}
 
 -- bytes, filled up with zeros to n
@@ -39,4 +39,4 @@ OneByte h t = h .len ≡ 1 → (tagBytes t ≡ getD (h .bytes) 0 0 ∷ []) × (t
 
 -- what writing one byte answers and leaves, where so many bytes are to follow it
 unfoldable pub oneBefore : ℕ → ℕ → List ℕ → ℕ → Left
-oneBefore b content xs place = begun (b ∷ []) xs place (writeAnswer 0 can (1 + content) xs place)
+oneBefore b content xs place = settled (b ∷ []) xs place (writeAnswer 0 can (1 + content) xs place)

@@ -1,5 +1,6 @@
-pub mod Reading
 pub mod Header
+pub mod Reading
 pub mod Writing
 pub mod Held
 pub mod Item
+pub mod Form

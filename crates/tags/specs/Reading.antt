@@ -1,6 +1,6 @@
 -- Reading a tag (ASHRAE 135, 20.2.1, as 01 restates it), and what is expected of one.
 -- Assumes nothing.
-use Prim.Native.Nat.{ℕ, _/_, _%_}
+use Prim.Native.Nat.{ℕ}
 use mathlib.Core.Bool.{Bool, false}
 use mathlib.Core.List.{List}
 use lib.Dec.{ltb, eqb}
@@ -9,19 +9,21 @@ use Rattle.types.specs.Tag.{Number, application, context, opening, closing, Tag
 use Rattle.types.specs.Refusal.{tagFound}
 use Rattle.types.specs.Answer.{Answer, accepted, refused, refusal, then, Outcome, passed, stopped}
 use Rattle.numbers.specs.Reading.{byteFrom, fixedFrom}
+use Rattle.tags.specs.Header.{classBit, numberField, lowBits}
 use Rattle.tags.specs.declared.reading.TagRead.{TagRead}
 use Rattle.tags.specs.declared.reading.TagRead.the-variants as r
 use Rattle.tags.specs.declared.reading.NumberRead.{NumberRead}
 use Rattle.tags.specs.declared.reading.NumberRead.the-variants as n
 
--- the class and number that the first byte tells: the class in bit 3, the number in bits 7 to 4; in context class a field of 15 says that the next byte is the number, and with another field low bits 6 open and 7 close
+-- the class and number that the first byte tells: in application class the field is the number; in context class a field below 15 is the number, of which low bits 6 open and 7 close, and one of 15 says that the next byte is
 unfoldable pub numberFrom : ℕ → List ℕ → ℕ → Answer Number
 numberFrom first xs place =
-    if (eqb (first / 8 % 2) 0) (accepted (application (first / 16)) place)
-    (if (eqb (first / 16) 15) (then (byteFrom xs place) (λ n next. accepted (context n) next))
-    (if (eqb (first % 8) 6) (accepted (opening (first / 16)) place)
-    (if (eqb (first % 8) 7) (accepted (closing (first / 16)) place)
-    (accepted (context (first / 16)) place))))
+    if (eqb (classBit first) 0) (accepted (application (numberField first)) place)
+    (if (ltb (numberField first) 15)
+    (if (eqb (lowBits first) 6) (accepted (opening (numberField first)) place)
+    (if (eqb (lowBits first) 7) (accepted (closing (numberField first)) place)
+    (accepted (context (numberField first)) place)))
+    (then (byteFrom xs place) (λ n next. accepted (context n) next)))
 
 -- the value that the low bits tell: 0 to 4 are the value; 5 says that a byte follows, where 254 means two more bytes, 255 four more, and any other is the value; 6 and 7 give 0
 unfoldable pub tagValueFrom : ℕ → List ℕ → ℕ → Answer ℕ
@@ -38,7 +40,7 @@ tagValueFrom low xs place =
 unfoldable pub tagAfter : ℕ → List ℕ → ℕ → Answer Tag
 tagAfter first xs place =
     then (numberFrom first xs place) (λ n after.
-    then (tagValueFrom (first % 8) xs after) (λ v next.
+    then (tagValueFrom (lowBits first) xs after) (λ v next.
     accepted (tag n v) next))
 
 -- the tag at a place

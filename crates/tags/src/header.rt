@@ -4,7 +4,7 @@ ghost use mathlib.Core.List.{[], _∷_};
 ghost use Prim.Native.Nat.{_+_, _<_, _≤_};
 ghost use Rattle.types.specs.Tag.{tagOf};
 ghost use Rattle.tags.specs.Held.{holding, pushed, pushes};
-ghost use Rattle.tags.specs.Writing.{lowBits, contextBytes, tagValueBytes, tagBytes};
+ghost use Rattle.tags.specs.Writing.{lowBitsFor, contextBytes, tagValueBytes, tagBytes};
 use types::Tag;
 use types::TagNumber;
 
@@ -33,7 +33,7 @@ pub(crate) fn built(tag: Tag) -> Header
 
 // The low bits that tell a value.
 fn low(value: u32) -> u8
-    ensures { λ r. ⌜ r ≡ lowBits value ⌝ }
+    ensures { λ r. ⌜ r ≡ lowBitsFor value ⌝ }
     ensures { λ r. ⌜ r < 6 ⌝ }
 {
     if value < 5 { value as u8 } else { 5 }

@@ -3,3 +3,4 @@ pub mod Tag
 pub mod Refusal
 pub mod Answer
 pub mod Writing
+pub mod Acceptable

@@ -28,7 +28,7 @@ unless can a = a
 unless (cannot n c) a = refused n c
 
 -- what a write of so many bytes at a place answers, in 01's order: the buffer's length, the lent content's (0 where none is lent), the place, what cannot be written, room
-unfoldable pub writeAnswer : ℕ → Writable → ℕ → List ℕ → ℕ → Answer (Unit {0})
+unfoldable pub writeAnswer : (lent : ℕ) → Writable → (count : ℕ) → List ℕ → (place : ℕ) → Answer (Unit {0})
 writeAnswer lent w count xs place =
     if (ltb 65535 (length xs)) (refused 1 (amount (length xs)))
     (if (ltb 65535 lent) (refused 1 (amount lent))
@@ -49,11 +49,11 @@ left a xs = record { answer = a; buffer = xs }
 abbrev pub over : List ℕ → ℕ → List ℕ → List ℕ
 over xs place bytes = take place xs ++ (bytes ++ drop (place + length bytes) xs)
 
--- an accepted write replaces those bytes, and a refused one none
+-- an accepted write replaces those bytes and answers the place behind them, and a refused one replaces none
 abbrev pub settled : List ℕ → List ℕ → ℕ → Answer (Unit {0}) → Left
-settled bytes xs place (accepted u next) = left (accepted u next) (over xs place bytes)
+settled bytes xs place (accepted u next) = left (accepted tt (place + length bytes)) (over xs place bytes)
 settled bytes xs place (refused n c) = left (refused n c) xs
 
 -- a write of bytes at a place of a buffer
-unfoldable pub writing : ℕ → Writable → List ℕ → List ℕ → ℕ → Left
+unfoldable pub writing : (lent : ℕ) → Writable → List ℕ → List ℕ → (place : ℕ) → Left
 writing lent w bytes xs place = settled bytes xs place (writeAnswer lent w (length bytes) xs place)

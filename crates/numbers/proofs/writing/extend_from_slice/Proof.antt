@@ -1,12 +1,13 @@
 -- `numbers::extend_from_slice` meets its contract: where there is room, the slice is copied.
 -- Assumes nothing.
 use borrow.Author.Needs.{needs}
-use mathlib.Core.Path.{_≡_, sym, ap, _∙_}
+use mathlib.Core.Path.{_≡_, refl, sym, ap, _∙_}
 use Prim.Native.Nat.{_+_, _≤_}
 use lib.ListN.{length}
 use Rattle.types.specs.Answer.{accepted}
 use Rattle.types.specs.Writing.{can, writeAnswer, writing, paperWritten}
 use Rattle.numbers.proofs.Inside.{write-room}
+use Rattle.numbers.proofs.Wrote.{stored}
 use Rattle.numbers.proofs.writing.extend_from_slice.Statement.{statement}
 use Rattle.numbers.proofs.writing.extend_from_slice.Tie as tie
 
@@ -32,8 +33,7 @@ same-length : tie.Need-same-length
 same-length c = search needs
 
 returns : tie.Need-returns
-unfolding writing
-returns c = simp (answered (c .before .before .before .before .before), c .before .before .copy .ensures)
+returns c = stored _ can _ _ _ _ _ _ (answered (c .before .before .before .before .before)) refl (c .before .before .copy .ensures)
 
 same-length-2 : tie.Need-same-length-2
 same-length-2 c = search needs

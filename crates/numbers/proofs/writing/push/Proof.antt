@@ -2,12 +2,14 @@
 -- Assumes nothing.
 use borrow.Author.Needs.{needs}
 use native.Mathlib.Omega.{arith}
-use mathlib.Core.Path.{_≡_, sym, ap, _∙_}
+use mathlib.Core.Path.{_≡_, refl, sym, ap, _∙_}
 use Prim.Native.Nat.{_+_, _≤_}
+use mathlib.Core.List.{[], _∷_}
 use lib.ListN.{length}
 use Rattle.types.specs.Answer.{accepted}
-use Rattle.types.specs.Writing.{can, writeAnswer, writing, left, paperWritten}
+use Rattle.types.specs.Writing.{can, writeAnswer, writing, paperWritten}
 use Rattle.numbers.proofs.Inside.{write-room}
+use Rattle.numbers.proofs.Wrote.{stored}
 use Rattle.numbers.proofs.Over.{one-replaced}
 use Rattle.numbers.proofs.writing.push.Statement.{statement}
 use Rattle.numbers.proofs.writing.push.Tie as tie
@@ -34,10 +36,9 @@ same-length : tie.Need-same-length
 same-length c = search needs
 
 returns : tie.Need-returns
-unfolding writing
 returns c =
     let a = c .before .before .before .before .before .before .args in
-    simp (answered (c .before)) (ap (left (accepted tt (c .before .next .given .0 .0))) (one-replaced (a .buf .now) (a .place) (a .item) (omega (arith, fits (c .before)))))
+    stored 0 can 1 (a .item ∷ []) _ _ _ _ (answered (c .before)) refl (one-replaced (a .buf .now) (a .place) (a .item) (omega (arith, fits (c .before))))
 
 same-length-2 : tie.Need-same-length-2
 same-length-2 c = search needs

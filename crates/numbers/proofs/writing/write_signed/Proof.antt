@@ -12,6 +12,7 @@ use Rattle.types.specs.Answer.{accepted}
 use Rattle.types.specs.Writing.{can, writeAnswer, writing, paperWritten}
 use Rattle.numbers.specs.Integer.{lowBytes, patternOf, signedLength, signedBytes}
 use Rattle.numbers.proofs.Inside.{write-room}
+use Rattle.numbers.proofs.Wrote.{stored}
 use Rattle.numbers.proofs.Low.{low-bytes-of-pattern}
 use Rattle.numbers.proofs.Shortest.{signed-holds, signed-between, signed-length}
 use Rattle.numbers.proofs.writing.write_signed.Statement.{statement}
@@ -58,10 +59,10 @@ same-length : tie.Need-same-length
 same-length c = search needs
 
 returns : tie.Need-returns
-unfolding writing
 returns c =
     let p : c .before .before .before .before .pattern .result ≡ patternOf 8 (c .before .before .before .before .before .before .before .before .before .before .before .before .args .value) = c .before .before .before .before .pattern .ensures ∙ ap (patternOf 8) (itself (c .before .before .before .before .before .before .before .before .before .before .before .before)) in
-    simp (sized (c .before .before .before .before .before .before .before .before .before .before), answered (c .before .before .before .before .before .before), c .before .before .put .ensures, p, bytes (c .before .before .before .before .before .before .before .before .before .before))
+    stored 0 can _ _ _ _ _ _ (answered (c .before .before .before .before .before .before)) (sized (c .before .before .before .before .before .before .before .before .before .before))
+    (c .before .before .put .ensures ∙ simp (p, bytes (c .before .before .before .before .before .before .before .before .before .before)))
 
 same-length-2 : tie.Need-same-length-2
 same-length-2 c = search needs

@@ -8,6 +8,7 @@ use Rattle.types.specs.Answer.{accepted}
 use Rattle.types.specs.Writing.{can, writeAnswer, writing, paperWritten}
 use Rattle.numbers.specs.Integer.{lowBytes, unsignedBytes}
 use Rattle.numbers.proofs.Inside.{write-room}
+use Rattle.numbers.proofs.Wrote.{stored}
 use Rattle.numbers.proofs.Low.{low-bytes-length}
 use Rattle.numbers.proofs.writing.write_unsigned.Statement.{statement}
 use Rattle.numbers.proofs.writing.write_unsigned.Tie as tie
@@ -41,8 +42,9 @@ same-length : tie.Need-same-length
 same-length c = search needs
 
 returns : tie.Need-returns
-unfolding writing
-returns c = simp (sized (c .before .before .before .before .before .before .before .before .before), answered (c .before .before .before .before .before), c .before .before .put .ensures, bytes (c .before .before .before .before .before .before .before .before .before))
+returns c =
+    stored 0 can _ _ _ _ _ _ (answered (c .before .before .before .before .before)) (sized (c .before .before .before .before .before .before .before .before .before))
+    (c .before .before .put .ensures ∙ simp (bytes (c .before .before .before .before .before .before .before .before .before)))
 
 same-length-2 : tie.Need-same-length-2
 same-length-2 c = search needs

@@ -1,4 +1,4 @@
--- `tags::low` meets its contract: the test says which case of `lowBits` holds.
+-- `tags::low` meets its contract: the test says which case of `lowBitsFor` holds.
 -- Assumes nothing.
 use borrow.Author.Needs.{needs}
 use borrow.Author.Tests.{lt-ltb, le-ltb}

@@ -2,8 +2,11 @@
 -- Assumes nothing.
 use borrow.Author.Needs.{needs}
 use mathlib.Core.Path.{sym, ap, _∙_}
-use borrow.Author.Tests.{eq-eqb, ne-eqb}
+use Prim.Native.Nat.{_<_}
+use native.Mathlib.Omega.{arith}
+use borrow.Author.Tests.{lt-ltb, eq-eqb, ne-eqb}
 use Rattle.numbers.specs.Reading.{paperByte}
+use Rattle.tags.specs.Header.{numberField}
 use Rattle.tags.specs.Reading.{numberFrom}
 use Rattle.tags.proofs.reading.number_after.Statement.{statement}
 use Rattle.tags.proofs.reading.number_after.Tie as tie
@@ -26,23 +29,23 @@ enum-known-r c = search needs
 
 returns-2 : tie.Need-returns-2
 unfolding numberFrom
-returns-2 c = simp (ne-eqb _ _ (c .before .before .before .before .before .if1 .left), eq-eqb _ _ (c .before .before .before .before .if2 .taken), sym (c .before .before .before .read-byte .ensures) ∙ ap paperByte (c .before .number .given .1))
+returns-2 c = simp (ne-eqb _ _ (c .before .before .before .before .before .if1 .left), c .before .before .before .before .if2 .taken, sym (c .before .before .before .read-byte .ensures) ∙ ap paperByte (c .before .number .given .1))
 
 returns-3 : tie.Need-returns-3
 unfolding numberFrom
-returns-3 c = simp (ne-eqb _ _ (c .before .before .before .before .before .if1 .left), eq-eqb _ _ (c .before .before .before .before .if2 .taken), sym (c .before .before .before .read-byte .ensures) ∙ ap paperByte (c .before .r .given .1))
+returns-3 c = simp (ne-eqb _ _ (c .before .before .before .before .before .if1 .left), c .before .before .before .before .if2 .taken, sym (c .before .before .before .read-byte .ensures) ∙ ap paperByte (c .before .r .given .1))
 
 returns-4 : tie.Need-returns-4
 unfolding numberFrom
-returns-4 c = simp (ne-eqb _ _ (c .before .before .if1 .left), ne-eqb _ _ (c .before .if2 .left), eq-eqb _ _ (c .if3 .taken))
+returns-4 c = let h : numberField (c .before .before .before .before .args .first) < 15 = omega arith in simp (ne-eqb _ _ (c .before .before .if1 .left), lt-ltb _ _ h, eq-eqb _ _ (c .if3 .taken))
 
 returns-5 : tie.Need-returns-5
 unfolding numberFrom
-returns-5 c = simp (ne-eqb _ _ (c .before .before .before .if1 .left), ne-eqb _ _ (c .before .before .if2 .left), ne-eqb _ _ (c .before .if3 .left), eq-eqb _ _ (c .if4 .taken))
+returns-5 c = let h : numberField (c .before .before .before .before .before .args .first) < 15 = omega arith in simp (ne-eqb _ _ (c .before .before .before .if1 .left), lt-ltb _ _ h, ne-eqb _ _ (c .before .if3 .left), eq-eqb _ _ (c .if4 .taken))
 
 returns-6 : tie.Need-returns-6
 unfolding numberFrom
-returns-6 c = simp (ne-eqb _ _ (c .before .before .before .if1 .left), ne-eqb _ _ (c .before .before .if2 .left), ne-eqb _ _ (c .before .if3 .left), ne-eqb _ _ (c .if4 .left))
+returns-6 c = let h : numberField (c .before .before .before .before .before .args .first) < 15 = omega arith in simp (ne-eqb _ _ (c .before .before .before .if1 .left), lt-ltb _ _ h, ne-eqb _ _ (c .before .if3 .left), ne-eqb _ _ (c .if4 .left))
 
 pub number-after-spec : {M : Type 1} → statement M
 number-after-spec = tie.close (tie.spec application-requires returns read-byte-requires enum-known-number enum-known-r returns-2 returns-3 returns-4 returns-5 returns-6)

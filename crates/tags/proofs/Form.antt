@@ -1,0 +1,163 @@
+-- A tag is written in its form: in the fewest bytes that stand for it, and in no others.
+-- Assumes nothing.
+use mathlib.Core.Path.{_≡_, refl, _∙_, ap, ap₂, sym, subst}
+use Prim.Native.Nat.{ℕ, zero, suc, _+_, _*_, _^_, _<_, _≤_}
+use native.Mathlib.Omega.{arith}
+use mathlib.Core.List.{List, [], _∷_, _++_, append-nil}
+use lib.Dec.{lit<}
+use lib.ListN.{length}
+use borrow.Author.Tests.{lt-ltb, le-ltb}
+use Rattle.types.specs.Tag.{Number, application, context, opening, closing, Tag, tag}
+use Rattle.numbers.specs.Integer.{lowBytes, unsignedValue, Bytes}
+use Rattle.numbers.proofs.Value.{value-lt}
+use Rattle.numbers.proofs.Low.{low-bytes-length, low-bytes-are-bytes, low-bytes-of-value}
+use Rattle.tags.specs.Header.{classBit, numberField, lowBits, TellsValue, inline, one, two, four, none, IsTag, ofApplication, ofLongContext, ofContext, ofOpening, ofClosing}
+use Rattle.tags.specs.Writing.{lowBitsFor, tagValueBytes, contextBytes, numberBytes, tagBytes}
+use Rattle.tags.specs.Form.{StandsFor, zeroLow, firstLow, Form}
+use Rattle.tags.proofs.Range.{InRange}
+use Rattle.tags.proofs.Back.{split, low-lt, header-is-tag}
+
+-- the bytes that are written for a value, by how large it is
+few : (v : ℕ) → v < 5 → tagValueBytes v ≡ []
+few v h = simp (lt-ltb v 5 h)
+
+alone : (v : ℕ) → 5 ≤ v → v < 254 → tagValueBytes v ≡ v ∷ []
+alone v h k = simp (le-ltb v 5 h, lt-ltb v 254 k)
+
+in-two : (v : ℕ) → 254 ≤ v → v < 65536 → tagValueBytes v ≡ 254 ∷ lowBytes 2 v
+in-two v h k = simp (le-ltb v 5 (omega arith), le-ltb v 254 h, lt-ltb v 65536 k)
+
+in-four : (v : ℕ) → 65536 ≤ v → tagValueBytes v ≡ 255 ∷ lowBytes 4 v
+in-four v h = simp (le-ltb v 5 (omega arith), le-ltb v 254 (omega arith), le-ltb v 65536 h)
+
+-- and how many they are at the most
+most-one : (v : ℕ) → v < 254 → length (tagValueBytes v) ≤ 1
+most-one v h = split v 5 (λ k. omega (arith, ap length (few v k))) (λ k. omega (arith, ap length (alone v k h)))
+
+most-three : (v : ℕ) → v < 65536 → length (tagValueBytes v) ≤ 3
+most-three v h = split v 254 (λ k. omega (arith, most-one v k)) (λ k. omega (arith, ap length (in-two v k h)))
+
+most-five : (v : ℕ) → length (tagValueBytes v) ≤ 5
+most-five v = split v 65536 (λ h. omega (arith, most-three v h)) (λ h. omega (arith, ap length (in-four v h)))
+
+two-below : (bytes : List ℕ) → length bytes ≡ 2 → Bytes (254 ∷ bytes) → unsignedValue bytes < 65536
+two-below bytes h b = rw h at (value-lt bytes (λ i. b (suc i)))
+
+-- no fewer bytes tell a value
+value-least : {low v : ℕ} {bytes : List ℕ} → TellsValue low v bytes → Bytes bytes → length (tagValueBytes v) ≤ length bytes
+value-least (inline {low} h) b = omega (arith, ap length (few low h))
+value-least (one {b} h k) below = most-one b (omega (arith, below 0))
+value-least (two bytes h) b = omega (arith, most-three (unsignedValue bytes) (two-below bytes h b))
+value-least (four bytes h) b = omega (arith, most-five (unsignedValue bytes))
+value-least (none h) b = omega arith
+
+-- and no others as few, nor other low bits but for 0
+record ValueForm (low v : ℕ) (bytes : List ℕ) : Type 0 where
+  same : bytes ≡ tagValueBytes v
+  low-same : 0 < v → low ≡ lowBitsFor v
+
+from-five : (v : ℕ) → 5 ≤ v → 5 ≡ lowBitsFor v
+from-five v h = simp (le-ltb v 5 h)
+
+value-only : {low v : ℕ} {bytes : List ℕ} → TellsValue low v bytes → Bytes bytes → length bytes ≡ length (tagValueBytes v) → ValueForm low v bytes
+value-only (inline {low} h) b l = record { same = sym (few low h); low-same = λ z. simp (lt-ltb low 5 h) }
+value-only (one {b} h k) below l =
+    split b 5 (λ m. absurd (omega (arith, ap length (few b m))))
+    (λ m. record { same = sym (alone b m (omega (arith, below 0))); low-same = λ z. from-five b m })
+value-only (two bytes h) b l =
+    let v : ℕ = unsignedValue bytes in
+    let e : 254 ∷ bytes ≡ 254 ∷ lowBytes 2 v = ap (λ (bs : List ℕ). 254 ∷ bs) (sym (rw h at (low-bytes-of-value bytes (λ i. b (suc i))))) in
+    split v 254 (λ m. absurd (omega (arith, most-one v m)))
+    (λ m. record { same = e ∙ sym (in-two v m (two-below bytes h b)); low-same = λ z. from-five v (omega arith) })
+value-only (four bytes h) b l =
+    let v : ℕ = unsignedValue bytes in
+    let e : 255 ∷ bytes ≡ 255 ∷ lowBytes 4 v = ap (λ (bs : List ℕ). 255 ∷ bs) (sym (rw h at (low-bytes-of-value bytes (λ i. b (suc i))))) in
+    split v 65536 (λ m. absurd (omega (arith, most-three v m)))
+    (λ m. record { same = e ∙ sym (in-four v m); low-same = λ z. from-five v (omega arith) })
+value-only (none h) b l = record { same = refl; low-same = λ z. absurd (omega arith) }
+
+-- a first byte is its number field, its class and its low bits
+first-is : (first : ℕ) → first ≡ numberField first * 16 + classBit first * 8 + lowBits first
+first-is first = omega arith
+
+-- the low bits of other bytes are those that are written, where the value is above 0 or they are the ones of 0
+low-is : (v low : ℕ) → (0 < v → low ≡ lowBitsFor v) → (v ≡ 0 → low ≡ 0) → low ≡ lowBitsFor v
+low-is v low f g = split 0 v f (λ h. let z : v ≡ 0 = omega arith in g z ∙ ap lowBitsFor (sym z))
+
+-- no fewer bytes stand for a tag
+least : {t : Tag} {other : List ℕ} → IsTag t other → Bytes other → length (numberBytes (t .number) (t .value)) ≤ length other
+least (ofApplication c w) b = omega (arith, value-least w (λ i. b (suc i)))
+least (ofLongContext {n = n} c m w) b =
+    let l = value-least w (λ i. b (suc (suc i))) in
+    split n 15 (λ h. simp (lt-ltb n 15 h) (omega arith)) (λ h. simp (le-ltb n 15 h) (omega arith))
+least (ofContext {first} c m h w) b = let l = value-least w (λ i. b (suc i)) in simp (lt-ltb (numberField first) 15 m) (omega arith)
+least (ofOpening {first} c m h) b = simp (lt-ltb (numberField first) 15 m) (omega arith)
+least (ofClosing {first} c m h) b = simp (lt-ltb (numberField first) 15 m) (omega arith)
+
+-- and no others as few
+only : {t : Tag} {other : List ℕ} → IsTag t other → Bytes other → length other ≡ length (numberBytes (t .number) (t .value)) → (t .value ≡ 0 → firstLow other ≡ zeroLow (t .number)) → other ≡ numberBytes (t .number) (t .value)
+only (ofApplication {first} {v} c w) b l z =
+    let f = value-only w (λ i. b (suc i)) (omega arith) in
+    let k : lowBits first ≡ lowBitsFor v = low-is v (lowBits first) (f .low-same) z in
+    ap₂ _∷_ (let e : first ≡ numberField first * 16 + lowBitsFor v = omega (arith, first-is first) in e) (f .same)
+only (ofLongContext {first} {n} {v} {bytes} c m w) b l z =
+    let g = value-least w (λ i. b (suc (suc i))) in
+    split n 15 (λ h. absurd (omega (arith, simp (lt-ltb n 15 h) at l)))
+    (λ h.
+    let f = value-only w (λ i. b (suc (suc i))) (omega (arith, simp (le-ltb n 15 h) at l)) in
+    let k : lowBits first ≡ lowBitsFor v = low-is v (lowBits first) (f .low-same) z in
+    let e : first ≡ 248 + lowBitsFor v = omega (arith, first-is first, b 0) in
+    simp (le-ltb n 15 h) (ap₂ (λ (x : ℕ) (bs : List ℕ). x ∷ n ∷ bs) e (f .same)))
+only (ofContext {first} {v} c m h w) b l z =
+    let f = value-only w (λ i. b (suc i)) (omega (arith, simp (lt-ltb (numberField first) 15 m) at l)) in
+    let k : lowBits first ≡ lowBitsFor v = low-is v (lowBits first) (f .low-same) z in
+    let e : first ≡ numberField first * 16 + 8 + lowBitsFor v = omega (arith, first-is first) in
+    simp (lt-ltb (numberField first) 15 m) (ap₂ _∷_ e (f .same))
+only (ofOpening {first} c m h) b l z =
+    let e : first ≡ numberField first * 16 + 8 + 6 = omega (arith, first-is first) in simp (lt-ltb (numberField first) 15 m) (ap (λ (x : ℕ). x ∷ []) e)
+only (ofClosing {first} c m h) b l z =
+    let e : first ≡ numberField first * 16 + 8 + 7 = omega (arith, first-is first) in simp (lt-ltb (numberField first) 15 m) (ap (λ (x : ℕ). x ∷ []) e)
+
+-- a value of 0 is told by the low bits of 0
+zero-low : (n : Number) → firstLow (numberBytes n 0) ≡ zeroLow n
+zero-low (application n) = omega arith
+zero-low (context n) = split n 15 (λ h. simp (lt-ltb n 15 h) (omega arith)) (λ h. simp (le-ltb n 15 h))
+zero-low (opening n) = split n 15 (λ h. simp (lt-ltb n 15 h) (omega arith)) (λ h. simp (le-ltb n 15 h))
+zero-low (closing n) = split n 15 (λ h. simp (lt-ltb n 15 h) (omega arith)) (λ h. simp (le-ltb n 15 h))
+
+-- all that is written is below 256
+also : (b : ℕ) (bs : List ℕ) → b < 256 → Bytes bs → Bytes (b ∷ bs)
+also b bs h k zero = h
+also b bs h k (suc i) = k i
+
+value-below : (v : ℕ) → Bytes (tagValueBytes v)
+value-below v =
+    split v 5 (λ h. rw (few v h) (λ i. lit< tt)) (λ h.
+    split v 254 (λ k. rw (alone v h k) (also v [] (omega arith) (λ i. lit< tt))) (λ k.
+    split v 65536 (λ l. rw (in-two v k l) (also 254 (lowBytes 2 v) (lit< tt) (low-bytes-are-bytes 2 v)))
+    (λ l. rw (in-four v l) (also 255 (lowBytes 4 v) (lit< tt) (low-bytes-are-bytes 4 v)))))
+
+context-below : (n low : ℕ) (bs : List ℕ) → n < 256 → low < 8 → Bytes bs → Bytes (contextBytes n low ++ bs)
+context-below n low bs h k b =
+    split n 15 (λ l. simp (lt-ltb n 15 l) (also (n * 16 + 8 + low) bs (omega arith) b))
+    (λ l. simp (le-ltb n 15 l) (also (248 + low) (n ∷ bs) (omega arith) (also n bs h b)))
+
+number-below : (n : Number) (v : ℕ) → InRange n v → Bytes (numberBytes n v)
+number-below (application n) v r = also (n * 16 + lowBitsFor v) (tagValueBytes v) (omega (arith, low-lt v)) (value-below v)
+number-below (context n) v r = context-below n (lowBitsFor v) (tagValueBytes v) (r .0) (omega (arith, low-lt v)) (value-below v)
+number-below (opening n) v r = rw append-nil at (context-below n 6 [] (omega (arith, r .0)) (lit< tt) (λ i. lit< tt))
+number-below (closing n) v r = rw append-nil at (context-below n 7 [] (omega (arith, r .0)) (lit< tt) (λ i. lit< tt))
+
+-- the bytes that are written for a tag have its form
+pub written-form : (n : Number) (v : ℕ) → InRange n v → Form (tag n v) (tagBytes (tag n v))
+unfolding tagBytes
+written-form n v r = record {
+  stands = record { whole = header-is-tag n v r; below = number-below n v r };
+  least = λ other s. least (s .whole) (s .below);
+  only = λ other s l z. only (s .whole) (s .below) l z;
+  zero = λ e. subst (λ (x : ℕ). firstLow (numberBytes n x) ≡ zeroLow n) (sym e) (zero-low n);
+}
+
+-- and no other bytes have it
+pub one-form : {t : Tag} {a b : List ℕ} → Form t a → Form t b → a ≡ b
+one-form {t} {a} {b} f g = g .only a (f .stands) (let l = f .least b (g .stands) in let k = g .least a (f .stands) in omega arith) (f .zero)
