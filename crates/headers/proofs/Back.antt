@@ -9,6 +9,7 @@ use lib.ListN.{length, drop}
 use Rattle.types.specs.Answer.{accepted}
 use Rattle.types.specs.Writing.{can, left}
 use Rattle.types.proofs.Choices.{either}
+use Rattle.types.proofs.Accepted.{could-be-written}
 use Rattle.numbers.proofs.Wrote.{wrote, written-here, over-length}
 use Rattle.headers.specs.Header.{Kind, request, simple, complex, segment, Field, twoNibbles, oneNumber, oneChoice, FieldValue, nibbles, number, choice, Header, rowOf, kinds, headerOf}
 use Rattle.headers.specs.Reading.{headerFrom}
@@ -16,7 +17,7 @@ use Rattle.headers.specs.Writing.{byteOf, valueWritable, writable, heade
 use Rattle.headers.specs.Bytes.{Carries, asNibbles, asNumber, asChoice, AreFields, none, more, TellsKind, IsHeader, ofRow}
 use Rattle.headers.specs.declared.header.Header as program
 use Rattle.headers.specs.declared.header.Header.the-variants as h
-use Rattle.headers.proofs.Writable.{both-parts, four-bits, choice-small, could-be-written}
+use Rattle.headers.proofs.Writable.{both-parts, four-bits, choice-small}
 use Rattle.headers.proofs.Exactly.{read-exactly}
 
 -- the byte of a row that carries a value
@@ -87,7 +88,7 @@ written-reads h t xs place next ys e =
       bytes = bytes;
       rest = drop (place + length bytes) xs;
       here = ap (drop place) (w .buffer) ∙ written-here bytes xs place (w .room);
-      isHeader = written-is-header h t (could-be-written 0 (writable (h .fields)) bytes xs place next ys e);
+      isHeader = written-is-header h t (could-be-written 0 (writable (h .fields)) bytes xs place next ys e .writable);
       ends = w .ends;
     })
 

@@ -7,3 +7,4 @@ pub mod Back
 pub mod Again
 pub mod Single
 pub mod Examples
+pub mod Accepted

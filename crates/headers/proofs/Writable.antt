@@ -1,18 +1,14 @@
--- What is known of values that can be written, and of a write that was made.
+-- What is known of values that can be written.
 -- Assumes nothing.
-use mathlib.Core.Path.{_≡_, refl, subst}
-use Prim.Native.Nat.{ℕ, _+_, _≤_}
+use mathlib.Core.Path.{_≡_, refl}
+use Prim.Native.Nat.{ℕ, _≤_}
 use native.Mathlib.Omega.{arith}
 use mathlib.Core.Bool.{Bool, true, false}
-use mathlib.Core.List.{List}
 use lib.Dec.{ltb}
-use lib.ListN.{length}
 use borrow.Author.Tests.{le-ltb, ltb-false}
 use Rattle.types.specs.Choice.{if}
 use Rattle.types.specs.Refusal.{amount}
-use Rattle.types.specs.Answer.{Answer, accepted, refused}
-use Rattle.types.specs.Writing.{Writable, can, cannot, unless, Left, left, settled, writeAnswer, writing}
-use Rattle.types.proofs.Choices.{either}
+use Rattle.types.specs.Writing.{Writable, can, cannot}
 use Rattle.headers.specs.Header.{nibbles, choice}
 use Rattle.headers.specs.Writing.{both, valueWritable}
 
@@ -51,28 +47,3 @@ choice-small c e = passed 33 c 11 c can e .0
 
 pub choice-can : (c : ℕ) → c ≤ 33 → valueWritable (choice c) ≡ can
 choice-can c h = simp (le-ltb 33 c h)
-
--- what was written could be
-abbrev CanIf : Writable → Answer (Unit {0}) → Type 0
-CanIf w (accepted u next) = w ≡ can
-CanIf w (refused n c) = Unit {0}
-
-answer-can : (lent : ℕ) (w : Writable) (count : ℕ) (xs : List ℕ) (place : ℕ) → CanIf w (writeAnswer lent w count xs place)
-unfolding writeAnswer
-answer-can lent w count xs place =
-    either (CanIf w) (ltb 65535 (length xs)) (λ e. tt) (λ e.
-    either (CanIf w) (ltb 65535 lent) (λ f. tt) (λ f.
-    either (CanIf w) (ltb (length xs) place) (λ g. tt) (λ g. go w)))
-  where
-    go : (v : Writable) → CanIf v (unless v (if (ltb (length xs) (place + count)) (refused 13 (amount count)) (accepted tt (place + count))))
-    go can = either (CanIf can) (ltb (length xs) (place + count)) (λ h. tt) (λ h. refl)
-    go (cannot n c) = tt
-
-settled-can : (w : Writable) (bytes xs : List ℕ) (place : ℕ) (a : Answer (Unit {0})) → CanIf w a → CanIf w (settled bytes xs place a .answer)
-settled-can w bytes xs place (accepted u next) e = e
-settled-can w bytes xs place (refused n c) e = tt
-
-pub could-be-written : (lent : ℕ) (w : Writable) (bytes xs : List ℕ) (place next : ℕ) (ys : List ℕ) → writing lent w bytes xs place ≡ left (accepted tt next) ys → w ≡ can
-unfolding writing
-could-be-written lent w bytes xs place next ys e =
-    subst (λ (l : Left). CanIf w (l .answer)) e (settled-can w bytes xs place (writeAnswer lent w (length bytes) xs place) (answer-can lent w (length bytes) xs place))

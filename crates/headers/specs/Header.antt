@@ -36,14 +36,14 @@ abbrev pub header : Kind → List FieldValue → Header
 header k vs = record { kind = k; fields = vs }
 
 -- a row: the control byte's high nibble, whether its bit 3 says that the PDU is a segment, its low nibble as it is written, and the bytes that follow
-pub record Row : Type 0 where
+pub record HeaderRow : Type 0 where
   pub pduType : ℕ
   pub segmentable : Bool
   pub low : List FieldValue → ℕ
   pub follow : List Field
 
-abbrev pub row : ℕ → Bool → (List FieldValue → ℕ) → List Field → Row
-row t s l f = record { pduType = t; segmentable = s; low = l; follow = f }
+abbrev pub headerRow : ℕ → Bool → (List FieldValue → ℕ) → List Field → HeaderRow
+headerRow t s l f = record { pduType = t; segmentable = s; low = l; follow = f }
 
 -- a request says by 2 that it accepts an answer in segments: not if its segments nibble is 0
 abbrev pub accepting : ℕ → ℕ
@@ -60,11 +60,11 @@ noLow vs = 0
 
 -- the table (20.1.2, 20.1.4 to 20.1.6): behind its control byte a request has max-segments-accepted and max-APDU-length-accepted in one byte, then invokeID and service-choice;
 -- a simple and a complex acknowledgement have original-invokeID and service-ACK-choice; a segment acknowledgement has original-invokeID, sequence-number and actual-window-size
-abbrev pub rowOf : Kind → Row
-rowOf request = row 0 true requestLow (twoNibbles ∷ oneNumber ∷ oneChoice ∷ [])
-rowOf simple = row 2 false noLow (oneNumber ∷ oneChoice ∷ [])
-rowOf complex = row 3 true noLow (oneNumber ∷ oneChoice ∷ [])
-rowOf segment = row 4 false noLow (oneNumber ∷ oneNumber ∷ oneNumber ∷ [])
+abbrev pub rowOf : Kind → HeaderRow
+rowOf request = headerRow 0 true requestLow (twoNibbles ∷ oneNumber ∷ oneChoice ∷ [])
+rowOf simple = headerRow 2 false noLow (oneNumber ∷ oneChoice ∷ [])
+rowOf complex = headerRow 3 true noLow (oneNumber ∷ oneChoice ∷ [])
+rowOf segment = headerRow 4 false noLow (oneNumber ∷ oneNumber ∷ oneNumber ∷ [])
 
 -- all of them
 abbrev pub kinds : List Kind

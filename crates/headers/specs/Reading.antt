@@ -8,7 +8,7 @@ use Rattle.types.specs.Choice.{if}
 use Rattle.types.specs.Refusal.{amount}
 use Rattle.types.specs.Answer.{Answer, accepted, refused, refusal, then}
 use Rattle.numbers.specs.Reading.{byteFrom}
-use Rattle.headers.specs.Header.{Kind, Field, twoNibbles, oneNumber, oneChoice, FieldValue, nibbles, number, choice, Header, header, Row, rowOf, kinds, headerOf}
+use Rattle.headers.specs.Header.{Kind, Field, twoNibbles, oneNumber, oneChoice, FieldValue, nibbles, number, choice, Header, header, HeaderRow, rowOf, kinds, headerOf}
 use Rattle.headers.specs.declared.reading.HeaderRead.{HeaderRead}
 use Rattle.headers.specs.declared.reading.HeaderRead.the-variants as r
 use Rattle.headers.specs.declared.reading.PairRead.{PairRead}
@@ -34,7 +34,7 @@ abbrev pub kindFrom : Kind → List ℕ → ℕ → Answer Header
 kindFrom k xs place = then (fieldsFrom (rowOf k .follow) xs place) (λ vs next. accepted (header k vs) next)
 
 -- whether a control byte has a row's type, and does not say that the PDU is a segment
-abbrev pub tells : Row → ℕ → Bool
+abbrev pub tells : HeaderRow → ℕ → Bool
 tells r control = if (eqb (control / 16) (r .pduType)) (if (r .segmentable) (eqb (control / 8 % 2) 0) true) false
 
 -- the header of the first kind that the control byte tells; where it tells none, 17 carries it

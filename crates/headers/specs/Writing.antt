@@ -1,6 +1,6 @@
 -- Writing a header (ASHRAE 135, 20.1, as 01 restates it): one rule for the bytes of every row.
 -- Assumes nothing.
-use Prim.Native.Nat.{ℕ, _+_, _*_}
+use Prim.Native.Nat.{ℕ, _+_, _*_, _≤_}
 use mathlib.Core.List.{List, [], _∷_, map}
 use lib.Dec.{ltb}
 use Rattle.types.specs.Choice.{if}
@@ -26,6 +26,16 @@ abbrev pub valueWritable : FieldValue → Writable
 valueWritable (nibbles a b) = if (ltb 15 a) unwritable (if (ltb 15 b) unwritable can)
 valueWritable (number n) = can
 valueWritable (choice c) = choiceWritable c
+
+-- the same, said and not computed
+abbrev pub Carriable : FieldValue → Type 0
+Carriable (nibbles a b) = (a ≤ 15) × (b ≤ 15)
+Carriable (number n) = Unit {0}
+Carriable (choice c) = c ≤ 33
+
+abbrev pub AllCarriable : List FieldValue → Type 0
+AllCarriable [] = Unit {0}
+AllCarriable (v ∷ vs) = Carriable v × AllCarriable vs
 
 abbrev pub both : Writable → Writable → Writable
 both can w = w

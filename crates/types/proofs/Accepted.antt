@@ -1,6 +1,6 @@
 -- A write is accepted exactly if 01 has nothing against it: no writer refuses what there is room for.
 -- Assumes nothing.
-use mathlib.Core.Path.{_≡_, refl}
+use mathlib.Core.Path.{_≡_, refl, sym, subst}
 use mathlib.Core.Logic.{_↔_}
 use Prim.Native.Nat.{ℕ, _+_, _≤_}
 use mathlib.Core.List.{List}
@@ -10,7 +10,7 @@ use borrow.Author.Tests.{le-ltb, ltb-false}
 use Rattle.types.specs.Choice.{if}
 use Rattle.types.specs.Refusal.{amount}
 use Rattle.types.specs.Answer.{Answer, accepted, refused}
-use Rattle.types.specs.Writing.{Writable, can, cannot, unless, settled, writeAnswer}
+use Rattle.types.specs.Writing.{Writable, can, cannot, unless, Left, left, settled, writeAnswer, writing}
 use Rattle.types.specs.Acceptable.{Acceptable, IsAccepted}
 use Rattle.types.proofs.Choices.{either}
 
@@ -46,3 +46,9 @@ module _ (lent : ℕ) (w : Writable) (count : ℕ) (xs : List ℕ) (place : ℕ)
   pub accepted-exactly : (bytes : List ℕ) → IsAccepted (settled bytes xs place (writeAnswer lent w count xs place) .answer) ↔ Acceptable lent Can count xs place
   accepted-exactly bytes =
       let s = settled-as bytes xs place (writeAnswer lent w count xs place) in (λ h. nothing-against (s .0 h), λ a. s .1 (no-refusal a))
+
+-- so a write that was accepted was of what can be written, with room for it
+pub could-be-written : (lent : ℕ) (w : Writable) (bytes xs : List ℕ) (place next : ℕ) (ys : List ℕ) → writing lent w bytes xs place ≡ left (accepted tt next) ys → Acceptable lent (w ≡ can) (length bytes) xs place
+unfolding writing
+could-be-written lent w bytes xs place next ys e =
+    accepted-exactly lent w (length bytes) xs place (λ h. h, λ h. h) bytes .0 (subst (λ (l : Left). IsAccepted (l .answer)) (sym e) tt)
