@@ -7,18 +7,18 @@ use native.Mathlib.Omega.{arith}
 use mathlib.Core.List.{List, [], _∷_, _++_, map}
 use lib.ListN.{length, getD, take, drop, set, length-drop, length-append}
 use lib.Seq.{getD-drop}
-use borrow.Author.Tests.{le-ltb}
 use Rattle.types.specs.Answer.{accepted}
-use Rattle.types.specs.Writing.{Writable, can, left, over, writeAnswer, writing}
+use Rattle.types.specs.Writing.{Writable, can, left, over, writing}
 use Rattle.numbers.specs.Integer.{Bytes}
 use Rattle.numbers.proofs.Value.{bytes-dropped}
 use Rattle.numbers.proofs.Found.{behind}
 use Rattle.numbers.proofs.Over.{one-replaced}
-use Rattle.headers.specs.Header.{Field, FieldValue, Header, rowOf}
+use Rattle.numbers.proofs.Wrote.{write-fits}
+use Rattle.headers.specs.Header.{Field, FieldValue, nibbles, choice, Header, rowOf}
 use Rattle.headers.specs.Reading.{headerFrom}
 use Rattle.headers.specs.Writing.{byteOf, valueWritable, both, writable, headerBytes, headerTo}
 use Rattle.headers.specs.Bytes.{Carries, asNibbles, asNumber, asChoice, AreFields, none, more, IsHeader, ofRow}
-use Rattle.headers.proofs.Writable.{four-bits-can, choice-can}
+use Rattle.headers.proofs.Writable.{value-exactly}
 use Rattle.headers.proofs.Exactly.{read-exactly}
 
 -- a control byte with the low nibble that is written for a header
@@ -41,9 +41,9 @@ same-bytes (ofRow {k} {control} {vs} {bytes} w are) = ap₂ (λ (t : ℕ) (l : L
 
 -- what bytes carry can be written
 value-can : {f : Field} {v : FieldValue} {b : ℕ} → Carries f v b → b < 256 → valueWritable v ≡ can
-value-can (asNibbles {a} {b} h e) l = four-bits-can a b (omega arith) (omega arith)
+value-can (asNibbles {a} {b} h e) l = value-exactly (nibbles a b) .1 (omega arith, omega arith)
 value-can asNumber l = refl
-value-can (asChoice {c} h) l = choice-can c h
+value-can (asChoice {c} h) l = value-exactly (choice c) .1 h
 
 fields-can : {fs : List Field} {vs : List FieldValue} {bytes : List ℕ} → AreFields fs vs bytes → (rest : List ℕ) → Bytes (bytes ++ rest) → writable vs ≡ can
 fields-can none rest l = refl
@@ -73,12 +73,6 @@ stood-there xs place next rest only small e n (ofRow {k} {control} {vs} {bytes} 
       again = λ ys at. ap₂ (λ (x : Writable) (b : List ℕ). writing 0 x b ys at) c (same-bytes (ofRow w are));
     }
 
--- a write that has room
-room-enough : (bytes xs : List ℕ) (place : ℕ) → length xs ≤ 65535 → place + length bytes ≤ length xs → writing 0 can bytes xs place ≡ left (accepted tt (place + length bytes)) (over xs place bytes)
-unfolding writing writeAnswer
-room-enough bytes xs place small room =
-    simp (le-ltb 65535 (length xs) small, le-ltb (length xs) place (omega arith), le-ltb (length xs) (place + length bytes) room)
-
 -- bytes written over themselves, but for the first
 first-replaced : (xs : List ℕ) (place b : ℕ) (bytes : List ℕ) → place < length xs → drop (place + 1) xs ≡ bytes ++ drop (place + suc (length bytes)) xs → over xs place (b ∷ bytes) ≡ set xs place b
 first-replaced xs place b bytes h e = ap (λ (t : List ℕ). take place xs ++ (b ∷ t)) (sym e) ∙ sym (one-replaced xs place b h)
@@ -98,5 +92,5 @@ module _ (xs : List ℕ) (only : Bytes xs) (place next : ℕ) (h : Header) where
       behind xs place (a .control ∷ []) (a .bytes ++ drop next xs) (a .stood) ∙ ap (λ (m : ℕ). a .bytes ++ drop m xs) (a .ends) in
       let there : getD xs place 0 ≡ a .control = ap (λ (i : ℕ). getD xs i 0) (sym (add-zero place)) ∙ sym (getD-drop place xs 0 0) ∙ ap (λ (l : List ℕ). getD l 0 0) (a .stood) in
       a .again xs place
-      ∙ room-enough (b ∷ a .bytes) xs place (a .small) (omega arith)
+      ∙ write-fits 0 (b ∷ a .bytes) xs place (omega arith) (a .small) (omega arith)
       ∙ ap₂ (λ (m : ℕ) (ys : List ℕ). left (accepted tt m) ys) (sym (a .ends)) (first-replaced xs place b (a .bytes) (omega arith) rest ∙ ap (λ (c : ℕ). set xs place (rewritten h c)) (sym there))

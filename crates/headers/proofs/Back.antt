@@ -17,7 +17,7 @@ use Rattle.headers.specs.Writing.{byteOf, valueWritable, writable, heade
 use Rattle.headers.specs.Bytes.{Carries, asNibbles, asNumber, asChoice, AreFields, none, more, TellsKind, IsHeader, ofRow}
 use Rattle.headers.specs.declared.header.Header as program
 use Rattle.headers.specs.declared.header.Header.the-variants as h
-use Rattle.headers.proofs.Writable.{both-parts, four-bits, choice-small}
+use Rattle.headers.proofs.Writable.{both-parts, value-exactly}
 use Rattle.headers.proofs.Exactly.{read-exactly}
 
 -- the byte of a row that carries a value
@@ -58,9 +58,9 @@ low-short complex vs = lit< tt
 low-short segment vs = lit< tt
 
 value-carried : (v : FieldValue) → valueWritable v ≡ can → Carries (fieldOf v) v (byteOf v)
-value-carried (nibbles a b) e = let n = four-bits a b e in asNibbles {b = b} (omega arith) refl
+value-carried (nibbles a b) e = let n = value-exactly (nibbles a b) .0 e in asNibbles {b = b} (omega arith) refl
 value-carried (number n) e = asNumber
-value-carried (choice c) e = asChoice (choice-small c e)
+value-carried (choice c) e = asChoice (value-exactly (choice c) .0 e)
 
 fields-carried : (vs : List FieldValue) → writable vs ≡ can → AreFields (map fieldOf vs) vs (map byteOf vs)
 fields-carried [] e = none

@@ -1,16 +1,17 @@
--- What is known of values that can be written.
+-- Which field values can be written: the computed and the declarative definition agree.
 -- Assumes nothing.
-use mathlib.Core.Path.{_≡_, refl}
+use mathlib.Core.Path.{_≡_, refl, ap₂}
+use mathlib.Core.Logic.{_↔_}
 use Prim.Native.Nat.{ℕ, _≤_}
 use native.Mathlib.Omega.{arith}
-use mathlib.Core.Bool.{Bool, true, false}
+use mathlib.Core.List.{List, [], _∷_}
 use lib.Dec.{ltb}
-use borrow.Author.Tests.{le-ltb, ltb-false}
 use Rattle.types.specs.Choice.{if}
 use Rattle.types.specs.Refusal.{amount}
-use Rattle.types.specs.Writing.{Writable, can, cannot}
-use Rattle.headers.specs.Header.{nibbles, choice}
-use Rattle.headers.specs.Writing.{both, valueWritable}
+use Rattle.types.specs.Writing.{Writable, can, cannot, unwritable}
+use Rattle.types.proofs.Accepted.{limit-exactly}
+use Rattle.headers.specs.Header.{FieldValue, nibbles, number, choice}
+use Rattle.headers.specs.Writing.{valueWritable, Carriable, AllCarriable, both, writable}
 
 -- what comes last decides alone
 pub both-can : (w : Writable) → w ≡ both w can
@@ -22,28 +23,21 @@ pub both-parts : (v w : Writable) → both v w ≡ can → (v ≡ can) × (w ≡
 both-parts can w e = (refl, e)
 both-parts (cannot n c) w e = let z : _≡_ {A = ℕ} 0 1 = cc in absurd (omega arith)
 
--- a test that refuses what is above a limit was passed
-passed : (most v n k : ℕ) (a : Writable) → if (ltb most v) (cannot n (amount k)) a ≡ can → (v ≤ most) × (a ≡ can)
-passed most v n k a = go (ltb most v) (ltb-false most v)
-  where
-    go : (t : Bool) → (t ≡ false → v ≤ most) → if t (cannot n (amount k)) a ≡ can → (v ≤ most) × (a ≡ can)
-    go true f e = let z : _≡_ {A = ℕ} 0 1 = cc in absurd (omega arith)
-    go false f e = (f refl, e)
+-- nibbles have four bits, and a service choice goes to 33
+pub value-exactly : (v : FieldValue) → (valueWritable v ≡ can) ↔ Carriable v
+value-exactly (nibbles a b) =
+    let f = limit-exactly 15 a 12 (amount 0) (if (ltb 15 b) unwritable can) in
+    let g = limit-exactly 15 b 12 (amount 0) can in
+    (λ e. let p = f .0 e in (p .0, g .0 (p .1) .0), λ h. f .1 (h .0, g .1 (h .1, refl)))
+value-exactly (number n) = (λ e. tt, λ h. refl)
+value-exactly (choice c) = let f = limit-exactly 33 c 11 (amount c) can in (λ e. f .0 e .0, λ h. f .1 (h, refl))
 
--- nibbles have four bits
-pub record FourBits (a b : ℕ) : Type 0 where
-  pub first : a ≤ 15
-  pub second : b ≤ 15
-
-pub four-bits : (a b : ℕ) → valueWritable (nibbles a b) ≡ can → FourBits a b
-four-bits a b e = let p = passed 15 a 12 0 (if (ltb 15 b) (cannot 12 (amount 0)) can) e in record { first = p .0; second = passed 15 b 12 0 can (p .1) .0 }
-
-pub four-bits-can : (a b : ℕ) → a ≤ 15 → b ≤ 15 → valueWritable (nibbles a b) ≡ can
-four-bits-can a b f g = simp (le-ltb 15 a f, le-ltb 15 b g)
-
--- a service choice goes to 33
-pub choice-small : (c : ℕ) → valueWritable (choice c) ≡ can → c ≤ 33
-choice-small c e = passed 33 c 11 c can e .0
-
-pub choice-can : (c : ℕ) → c ≤ 33 → valueWritable (choice c) ≡ can
-choice-can c h = simp (le-ltb 33 c h)
+-- and so of all values of a header
+pub fields-exactly : (vs : List FieldValue) → (writable vs ≡ can) ↔ AllCarriable vs
+fields-exactly [] = (λ e. tt, λ h. refl)
+fields-exactly (v ∷ vs) =
+    let f = value-exactly v in
+    let g = fields-exactly vs in (
+      λ e. let p = both-parts (valueWritable v) (writable vs) e in (f .0 (p .0), g .0 (p .1)),
+      λ h. ap₂ both (f .1 (h .0)) (g .1 (h .1)),
+    )

@@ -3,12 +3,14 @@
 use mathlib.Core.Path.{_≡_, refl, sym, subst}
 use mathlib.Core.Logic.{_↔_}
 use Prim.Native.Nat.{ℕ, _+_, _≤_}
+use native.Mathlib.Omega.{arith}
+use mathlib.Core.Bool.{Bool, true, false}
 use mathlib.Core.List.{List}
 use lib.Dec.{ltb}
 use lib.ListN.{length}
 use borrow.Author.Tests.{le-ltb, ltb-false}
 use Rattle.types.specs.Choice.{if}
-use Rattle.types.specs.Refusal.{amount}
+use Rattle.types.specs.Refusal.{Carried, amount}
 use Rattle.types.specs.Answer.{Answer, accepted, refused}
 use Rattle.types.specs.Writing.{Writable, can, cannot, unless, Left, left, settled, writeAnswer, writing}
 use Rattle.types.specs.Acceptable.{Acceptable, IsAccepted}
@@ -18,6 +20,14 @@ use Rattle.types.proofs.Choices.{either}
 settled-as : (bytes xs : List ℕ) (place : ℕ) (a : Answer (Unit {0})) → IsAccepted (settled bytes xs place a .answer) ↔ IsAccepted a
 settled-as bytes xs place (accepted u next) = (λ h. tt, λ h. tt)
 settled-as bytes xs place (refused n c) = (λ h. h, λ h. h)
+
+-- a test that refuses what is above a limit is passed exactly below it
+pub limit-exactly : (most v n : ℕ) (c : Carried) (w : Writable) → (if (ltb most v) (cannot n c) w ≡ can) ↔ ((v ≤ most) × (w ≡ can))
+limit-exactly most v n c w = go (ltb most v) (ltb-false most v) (le-ltb most v)
+  where
+    go : (b : Bool) → (b ≡ false → v ≤ most) → (v ≤ most → b ≡ false) → (if b (cannot n c) w ≡ can) ↔ ((v ≤ most) × (w ≡ can))
+    go true f g = (λ e. let z : _≡_ {A = ℕ} 0 1 = cc in absurd (omega arith), λ h. let e = g (h .0) in let z : _≡_ {A = ℕ} 0 1 = cc in absurd (omega arith))
+    go false f g = (λ e. (f refl, e), λ h. h .1)
 
 module _ (lent : ℕ) (w : Writable) (count : ℕ) (xs : List ℕ) (place : ℕ) {Can : Type 0} (named : (w ≡ can) ↔ Can) where
   abbrev Then : Answer (Unit {0}) → Type 0
