@@ -8,7 +8,6 @@ use native.Mathlib.Omega.{arith}
 use mathlib.Core.List.{List, [], _∷_, _++_}
 use lib.Dec.{ltb, eqb, lit<}
 use lib.ListN.{length, take, drop, length-take, length-drop}
-use lib.Seq.{take-append-seam}
 use lib.Ieee.{binary32, binary64, toBits, ofBits}
 use borrow.Author.Tests.{ltb-true, eqb-true, eqb-false, lt-ltb, le-ltb, eq-eqb, ne-eqb}
 use Rattle.types.specs.Tag.{application, Tag, tag}
@@ -24,7 +23,7 @@ use Rattle.numbers.proofs.Found.{behind}
 use Rattle.numbers.proofs.Wrote.{wrote, written-here, write-fits}
 use Rattle.tags.specs.Writing.{tagBytes}
 use Rattle.tags.specs.Item.{booleanByte}
-use Rattle.tags.proofs.OneTag.{one-tag}
+use Rattle.tags.proofs.OneTag.{same-front, one-tag}
 use Rattle.tags.proofs.Back.{header-is-tag}
 use Rattle.utf8.specs.Text.{Text}
 use Rattle.utf8.proofs.Exactly.{good-exactly}
@@ -33,7 +32,7 @@ use Rattle.values.specs.Reading.{valueFrom}
 use Rattle.values.specs.Writing.{valueBytes, dateWritable, objectIdWritable, bitsWritable, textWritableBy, textWritable, writableValue, valueTo}
 use Rattle.values.specs.Content.{Content, ofBoolean, ofUnsigned, ofSigned, ofReal, ofDouble, ofOctetString, ofText, ofBitString, ofEnumerated, ofDate, ofTime, ofObjectId}
 use Rattle.values.proofs.Exactly.{ValueAt, read-exactly}
-use Rattle.values.proofs.Back.{tagUnder, contentUnder, bytes-are, tag-in-range, accepted-could, part-bytes, part-behind}
+use Rattle.values.proofs.Back.{tagUnder, contentUnder, bytes-are, tag-in-range, accepted-could, part-bytes, part-bytes-behind}
 
 -- the bytes to lend where a value that was read is written again: those of its part
 abbrev pub lentOf : Value → List ℕ → List ℕ
@@ -110,10 +109,10 @@ module _ (xs : List ℕ) where
   same-content (ofDouble bytes h) b rest e k = (refl, k)
   same-content (ofOctetString {place} bytes) b rest e k = let q = part-bytes xs place bytes rest e in (ap (λ (l : List ℕ). tag (application 6) (length l)) q, q)
   same-content (ofText {place} text w) b rest e k =
-      let q = part-behind xs place 0 text rest e in
+      let q = part-bytes-behind xs place 0 text rest e in
       (ap (λ (l : List ℕ). tag (application 7) (suc (length l))) q, ap (λ (l : List ℕ). 0 ∷ l) q)
   same-content (ofBitString {place} {unused} bytes) b rest e k =
-      let q = part-behind xs place unused bytes rest e in
+      let q = part-bytes-behind xs place unused bytes rest e in
       (ap (λ (l : List ℕ). tag (application 8) (suc (length l))) q, ap (λ (l : List ℕ). unused ∷ l) q)
   same-content (ofEnumerated bytes s m h) b rest e k = (ap (λ (l : List ℕ). tag (application 9) (length l)) k, k)
   same-content (ofDate {y = y} {m = m} {d = d} {w = w}) b rest e k = (refl, ap (λ (n : ℕ). n ∷ m ∷ d ∷ w ∷ []) (let z : y + 1900 - 1900 ≡ y = omega arith in z))
@@ -147,8 +146,8 @@ module _ (xs : List ℕ) where
   can-again (ofReal bytes h) b rest e n = refl
   can-again (ofDouble bytes h) b rest e n = refl
   can-again (ofOctetString bytes) b rest e n = refl
-  can-again (ofText {place} text w) b rest e n = ap textWritable (part-behind xs place 0 text rest e) ∙ text-can text w
-  can-again (ofBitString {place} {unused} bytes) b rest e n = ap (bitsWritable unused) (part-behind xs place unused bytes rest e) ∙ bits-can unused (place + 1) bytes n
+  can-again (ofText {place} text w) b rest e n = ap textWritable (part-bytes-behind xs place 0 text rest e) ∙ text-can text w
+  can-again (ofBitString {place} {unused} bytes) b rest e n = ap (bitsWritable unused) (part-bytes-behind xs place unused bytes rest e) ∙ bits-can unused (place + 1) bytes n
   can-again (ofEnumerated bytes s m h) b rest e n = refl
   can-again (ofDate {y = y}) b rest e n = simp (le-ltb (y + 1900) 1900 (omega arith), le-ltb 2155 (y + 1900) (omega (arith, b 0)))
   can-again ofTime b rest e n = refl
@@ -228,8 +227,7 @@ module _ (xs : List ℕ) (place : ℕ) (v : Value) (next : ℕ) (f : ValueAt xs 
         let c = accepted-could (length (lentOf v xs)) (writableValue v (lentOf v xs)) bytes ys at (at + length own) (over ys at own) e in
         let n : length bytes ≡ length own = omega (arith, w .ends) in
         let d : own ++ drop (at + length own) ys ≡ bytes ++ drop (at + length bytes) ys = sym (written-here own ys at room) ∙ ap (drop at) (w .buffer) ∙ written-here bytes ys at (w .room) in
-        let s : bytes ≡ own =
-        sym (take-append-seam bytes (drop (at + length bytes) ys)) ∙ ap (take (length bytes)) (sym d) ∙ ap (λ (k : ℕ). take k (own ++ drop (at + length own) ys)) n ∙ take-append-seam own (drop (at + length own) ys) in
+        let s : bytes ≡ own = same-front bytes (drop (at + length bytes) ys) own (drop (at + length own) ys) n (sym d) .0 in
         let k = own-bytes s in
         record {
           writable = λ h. let z : _≡_ {A = ℕ} 0 1 = cc (barred-cannot xs h, c .0) in omega arith;

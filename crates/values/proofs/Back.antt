@@ -223,8 +223,8 @@ pub part-bytes : (xs : List ℕ) (p : ℕ) (bytes rest : List ℕ) → drop p xs
 part-bytes xs p bytes rest e = ap (take (length bytes)) e ∙ take-append-seam bytes rest
 
 -- and of one that stands behind a byte
-pub part-behind : (xs : List ℕ) (p b : ℕ) (bytes rest : List ℕ) → drop p xs ≡ b ∷ (bytes ++ rest) → bytesIn xs (partAt (p + 1) (length bytes)) ≡ bytes
-part-behind xs p b bytes rest e = part-bytes xs (p + 1) bytes rest (behind xs p (b ∷ []) (bytes ++ rest) e)
+pub part-bytes-behind : (xs : List ℕ) (p b : ℕ) (bytes rest : List ℕ) → drop p xs ≡ b ∷ (bytes ++ rest) → bytesIn xs (partAt (p + 1) (length bytes)) ≡ bytes
+part-bytes-behind xs p b bytes rest e = part-bytes xs (p + 1) bytes rest (behind xs p (b ∷ []) (bytes ++ rest) e)
 
 -- content that stands at a place has the lent bytes in the value's part
 holds-lent : (v : Value) (lent ys : List ℕ) (p : ℕ) (rest : List ℕ) → drop p ys ≡ contentUnder v lent ++ rest → PartHolds (placed v p lent) ys lent
@@ -234,10 +234,10 @@ holds-lent (double x) lent ys p rest e = tt
 holds-lent (onDate d) lent ys p rest e = tt
 holds-lent (atTime t) lent ys p rest e = tt
 holds-lent (objectId n i) lent ys p rest e = tt
-holds-lent (characterString q) lent ys p rest e = part-behind ys p 0 lent rest e
+holds-lent (characterString q) lent ys p rest e = part-bytes-behind ys p 0 lent rest e
 holds-lent (octetString q) lent ys p rest e = part-bytes ys p lent rest e
 holds-lent (enumerated x) lent ys p rest e = tt
-holds-lent (bitString u q) lent ys p rest e = part-behind ys p u lent rest e
+holds-lent (bitString u q) lent ys p rest e = part-bytes-behind ys p u lent rest e
 holds-lent (unsignedInt x) lent ys p rest e = tt
 holds-lent (signedInt x) lent ys p rest e = tt
 
