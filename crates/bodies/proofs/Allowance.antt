@@ -11,7 +11,7 @@ use Rattle.types.specs.Refusal.{Carried, amount}
 use Rattle.types.specs.Answer.{Answer, accepted, refused}
 use Rattle.tags.specs.Reading.{tagFrom, expectedFrom}
 use Rattle.tags.proofs.Exactly.{moves-on}
-use Rattle.bodies.specs.Scan.{Body, Counted, counted, Step, stopped, closed, onward, stepFrom, turn, scanFrom, scanned, bodyBy, bodyOf, bodyFrom, bodyForOf, bodyForFrom}
+use Rattle.bodies.specs.Scan.{Body, Counted, counted, ScanStep, stops, bodyClosed, onward, scanStepFrom, scanTurn, scanFrom, scanned, bodyBy, bodyOf, bodyFrom, bodyForOf, bodyForFrom}
 use Rattle.bodies.proofs.Refusals.{tag-refused}
 use Rattle.bodies.proofs.Scanned.{Why, spent, run-out, Says, items-inside}
 use Rattle.bodies.proofs.Ways.{body-ways, body-for-ways}
@@ -22,10 +22,10 @@ abbrev pub SameOrSpent : ℕ → Counted → Counted → Type 0
 SameOrSpent allowance r whole = (r ≡ whole) ⊎ (r ≡ counted (refused 14 (amount allowance)) allowance)
 
 module _ (n start : ℕ) (xs : List ℕ) where
-  turn-smaller : (f g k place : ℕ) → ((d p : ℕ) → SameOrSpent (k + 1 + f) (scanFrom f n start (k + 1) d xs p) (scanFrom g n start (k + 1) d xs p)) → (s : Step)
-      → SameOrSpent (k + suc f) (turn n start k place s (λ d p. scanFrom f n start (k + 1) d xs p)) (turn n start k place s (λ d p. scanFrom g n start (k + 1) d xs p))
-  turn-smaller f g k place rest (stopped r c) = inl refl
-  turn-smaller f g k place rest (closed next) = inl refl
+  turn-smaller : (f g k place : ℕ) → ((d p : ℕ) → SameOrSpent (k + 1 + f) (scanFrom f n start (k + 1) d xs p) (scanFrom g n start (k + 1) d xs p)) → (s : ScanStep)
+      → SameOrSpent (k + suc f) (scanTurn n start k place s (λ d p. scanFrom f n start (k + 1) d xs p)) (scanTurn n start k place s (λ d p. scanFrom g n start (k + 1) d xs p))
+  turn-smaller f g k place rest (stops r c) = inl refl
+  turn-smaller f g k place rest (bodyClosed next) = inl refl
   turn-smaller f g k place rest (onward d p) =
       ⊎-elim (λ e. inl e) (λ e. inr (e ∙ ap (λ (j : ℕ). counted (refused 14 (amount j)) j) (let z : k + 1 + f ≡ k + suc f = omega arith in z))) (rest d p)
 
@@ -33,7 +33,7 @@ module _ (n start : ℕ) (xs : List ℕ) where
   unfolding scanFrom
   scan-smaller zero g k unclosed place h = inr (ap (λ (j : ℕ). counted (refused 14 (amount j)) j) (let z : k ≡ k + 0 = omega arith in z))
   scan-smaller (suc f) zero k unclosed place h = absurd (omega arith)
-  scan-smaller (suc f) (suc g) k unclosed place h = turn-smaller f g k place (λ d p. scan-smaller f g (k + 1) d p (omega arith)) (stepFrom n unclosed xs place)
+  scan-smaller (suc f) (suc g) k unclosed place h = turn-smaller f g k place (λ d p. scan-smaller f g (k + 1) d p (omega arith)) (scanStepFrom n unclosed xs place)
 
 scanned-smaller : (f g n : ℕ) (xs : List ℕ) (next : ℕ) → f ≤ g → SameOrSpent f (scanned f n xs next) (scanned g n xs next)
 scanned-smaller f g n xs next h = subst (λ (j : ℕ). SameOrSpent j (scanned f n xs next) (scanned g n xs next)) (let z : 0 + f ≡ f = omega arith in z) (scan-smaller n next xs f g 0 0 next h)

@@ -14,9 +14,9 @@ use Rattle.tags.proofs.Exactly.{tag-found, moves-on}
 use Rattle.bodies.specs.Item.{Item}
 use Rattle.bodies.specs.Body.{BodyAt}
 use Rattle.bodies.specs.Scan.{Body, body, Counted, handed, scanned, bodyOf, bodyFrom}
-use Rattle.bodies.specs.Count.{part, ItemsRead}
 use Rattle.bodies.specs.View.{viewOf}
 use Rattle.bodies.specs.Given.{given}
+use Rattle.bodies.proofs.Items.{part, ItemsRead}
 use Rattle.bodies.proofs.Scanned.{scan-hands, scan-says, Says, items-ahead}
 use Rattle.bodies.proofs.Places.{Placed, body-placed, view-placed, placed-body, same-items}
 use Rattle.bodies.proofs.Ways.{body-ways}

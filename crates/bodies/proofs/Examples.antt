@@ -7,7 +7,7 @@ use Rattle.types.specs.Refusal.{amount, tagFound}
 use Rattle.types.specs.Answer.{refused}
 use Rattle.numbers.specs.Reading.{byteFrom, sliceFrom, fixedFrom}
 use Rattle.tags.specs.Reading.{numberFrom, tagValueFrom, tagAfter, tagFrom, expectedFrom}
-use Rattle.bodies.specs.Scan.{Counted, counted, handed, unread, stepAfter, stepFrom, scanFrom, bodyFrom, bodyForFrom}
+use Rattle.bodies.specs.Scan.{Counted, counted, handed, unread, scanStepAfter, scanStepFrom, scanFrom, bodyFrom, bodyForFrom}
 use Rattle.bodies.specs.View.{viewOf}
 
 -- two items and a closing tag; an allowance that is too small; a Boolean, whose value is no length; a closing of another number;
@@ -35,5 +35,5 @@ answered =
     ∷ unread 4 (tagFound (tag (context 16) 0)) ∷ []
 
 pub edges : (asked ≡ answered) × (viewOf 1 2 (0x3E ∷ 0x21 ∷ 0x07 ∷ 0x3F ∷ []) ≡ 0x21 ∷ 0x07 ∷ [])
-unfolding byteFrom sliceFrom fixedFrom numberFrom tagValueFrom tagAfter tagFrom expectedFrom stepAfter stepFrom scanFrom bodyFrom bodyForFrom viewOf
+unfolding byteFrom sliceFrom fixedFrom numberFrom tagValueFrom tagAfter tagFrom expectedFrom scanStepAfter scanStepFrom scanFrom bodyFrom bodyForFrom viewOf
 edges = (refl, refl)

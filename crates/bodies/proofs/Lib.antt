@@ -1,5 +1,6 @@
 pub mod Turns
 pub mod Balance
+pub mod Items
 pub mod Steps
 pub mod Plain
 pub mod Scanned

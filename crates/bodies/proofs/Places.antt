@@ -14,7 +14,7 @@ use Rattle.tags.specs.Header.{IsTag}
 use Rattle.tags.proofs.Exactly.{tag-found, tag-read, moves-on}
 use Rattle.bodies.specs.Item.{contentLength, Item}
 use Rattle.bodies.specs.Body.{Split, none, item, BodyAt}
-use Rattle.bodies.specs.Count.{part, itemAt, ItemsRead}
+use Rattle.bodies.proofs.Items.{part, itemAt, ItemsRead}
 use Rattle.bodies.proofs.Balance.{Balanced}
 use Rattle.bodies.proofs.Scanned.{items-ahead}
 

@@ -17,7 +17,7 @@ use Rattle.numbers.specs.Reading.{byteFrom}
 use Rattle.tags.specs.Reading.{numberFrom, tagValueFrom, tagAfter, tagFrom}
 use Rattle.bodies.specs.Item.{contentOf}
 use Rattle.bodies.specs.Plain.{plainLength}
-use Rattle.bodies.specs.Scan.{stopped, onward, stepOf, stepFrom}
+use Rattle.bodies.specs.Scan.{stops, onward, scanStepOf, scanStepFrom}
 use Rattle.bodies.proofs.Steps.{step-by}
 
 -- where it is not 0, the low bits are a length, and no number follows
@@ -53,10 +53,10 @@ module _ (b : ℕ) (low : b % 8 ≤ 4) (few : b ≤ 247) where
     context-tag a =
         simp (le-ltb 65535 (length xs) small, le-ltb (length xs) place (omega arith), lt-leb (length xs) place inside, is, ne-eqb (b / 8 % 2) 0 (λ z. omega arith), lt-ltb (b / 16) 15 (omega arith), ne-eqb (b % 8) 6 (λ z. omega arith), ne-eqb (b % 8) 7 (λ z. omega arith), lt-ltb (b % 8) 5 (omega arith))
 
-    plain-goes : (n unclosed : ℕ) → stepFrom n unclosed xs place ≡ onward unclosed (place + plainLength b)
+    plain-goes : (n unclosed : ℕ) → scanStepFrom n unclosed xs place ≡ onward unclosed (place + plainLength b)
     plain-goes n unclosed = by (eqb (b / 8 % 2) 0) refl
       where
-        by : (t : Bool) → eqb (b / 8 % 2) 0 ≡ t → stepFrom n unclosed xs place ≡ onward unclosed (place + plainLength b)
+        by : (t : Bool) → eqb (b / 8 % 2) 0 ≡ t → scanStepFrom n unclosed xs place ≡ onward unclosed (place + plainLength b)
         by true e =
             let a : b / 8 % 2 ≡ 0 = eqb-true (b / 8 % 2) 0 e in
             let l = application-length a in
@@ -70,16 +70,16 @@ module _ (b : ℕ) (low : b % 8 ≤ 4) (few : b ≤ 247) where
             ∙ ap (onward unclosed) (let z : place + 1 + contentOf (context (b / 16)) (b % 8) ≡ place + plainLength b = omega (arith, l) in z)
 
 -- the scan goes on behind it with as many openings unclosed
-pub plain-step : (n unclosed : ℕ) (xs : List ℕ) (place : ℕ) → length xs ≤ 65535 → place < length xs → 0 < plainLength (getD xs place 0) → stepFrom n unclosed xs place ≡ onward unclosed (place + plainLength (getD xs place 0))
+pub plain-step : (n unclosed : ℕ) (xs : List ℕ) (place : ℕ) → length xs ≤ 65535 → place < length xs → 0 < plainLength (getD xs place 0) → scanStepFrom n unclosed xs place ≡ onward unclosed (place + plainLength (getD xs place 0))
 plain-step n unclosed xs place small inside h =
     let s = short (getD xs place 0) h in
     plain-goes (getD xs place 0) (s .0) (s .1) xs place small inside refl n unclosed
 
 -- at the end no byte is left
-pub end-step : (n unclosed : ℕ) (xs : List ℕ) (place : ℕ) → length xs ≤ 65535 → length xs ≤ place → stepFrom n unclosed xs place ≡ stopped 3 (amount (length xs))
-unfolding stepFrom tagFrom byteFrom
+pub end-step : (n unclosed : ℕ) (xs : List ℕ) (place : ℕ) → length xs ≤ 65535 → length xs ≤ place → scanStepFrom n unclosed xs place ≡ stops 3 (amount (length xs))
+unfolding scanStepFrom tagFrom byteFrom
 end-step n unclosed xs place small h = by (ltb (length xs) place) refl
   where
-    by : (t : Bool) → ltb (length xs) place ≡ t → if t (stopped 3 (amount (length xs))) (stepOf n unclosed (tagFrom xs place)) ≡ stopped 3 (amount (length xs))
+    by : (t : Bool) → ltb (length xs) place ≡ t → if t (stops 3 (amount (length xs))) (scanStepOf n unclosed (tagFrom xs place)) ≡ stops 3 (amount (length xs))
     by true e = refl
     by false e = simp (le-ltb 65535 (length xs) small, e, le-leb (length xs) place h)

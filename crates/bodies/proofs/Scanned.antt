@@ -12,9 +12,9 @@ use Rattle.tags.specs.Reading.{tagFrom}
 use Rattle.tags.proofs.Exactly.{moves-on}
 use Rattle.bodies.specs.Item.{contentLength, Item}
 use Rattle.bodies.specs.Body.{opens, closes}
-use Rattle.bodies.specs.Scan.{Body, body, handed, Step, stepFrom, turn, scanFrom}
-use Rattle.bodies.specs.Count.{itemAt, ItemsRead, NoTag}
-use Rattle.bodies.specs.Count.ItemsRead.{none, item}
+use Rattle.bodies.specs.Scan.{Body, body, handed, ScanStep, scanStepFrom, scanTurn, scanFrom}
+use Rattle.bodies.specs.Count.{NoTagRead}
+use Rattle.bodies.proofs.Items.{itemAt, ItemsRead, none, item}
 use Rattle.bodies.proofs.Balance.{Balanced, deeper, balanced-first, balanced-rest, balanced-more, balanced-none}
 use Rattle.bodies.proofs.Steps.{goes-on, step-by, step-closed, Saw, no-tag, ended, item-passed, saw}
 
@@ -25,11 +25,11 @@ unfolding scanFrom
 scan-hands n start xs x unclosed next b c zero k h = absurd (omega arith)
 scan-hands n start xs (none {place}) unclosed next b c (suc f) k h =
     let z : unclosed ≡ 0 = omega (arith, b .equal) in
-    ap (λ (s : Step). turn n start k place s (λ d p. scanFrom f n start (k + 1) d xs p)) (step-closed n unclosed xs place next z c)
+    ap (λ (s : ScanStep). scanTurn n start k place s (λ d p. scanFrom f n start (k + 1) d xs p)) (step-closed n unclosed xs place next z c)
     ∙ ap (handed start (place - start) n next) (let w : k + 1 ≡ k + 0 + 1 = omega arith in w)
 scan-hands n start xs (item {place} {next = after} {end} {t} {items} e x) unclosed next b c (suc f) k h =
     let i : Item = itemAt xs place after t in
-    ap (λ (s : Step). turn n start k place s (λ d p. scanFrom f n start (k + 1) d xs p))
+    ap (λ (s : ScanStep). scanTurn n start k place s (λ d p. scanFrom f n start (k + 1) d xs p))
     (step-by n unclosed xs place t after e ∙ goes-on n unclosed (t .number) after (after + contentLength t) (balanced-first n unclosed i items b))
     ∙ scan-hands n start xs x (deeper n unclosed i) next (balanced-rest n unclosed i items b) c f (k + 1) (omega arith)
     ∙ ap (handed start (end - start) n next) (let w : k + 1 + length items + 1 ≡ k + suc (length items) + 1 = omega arith in w)
@@ -48,7 +48,7 @@ pub record Ended (allowance n start k unclosed : ℕ) (xs : List ℕ) (place : �
 -- why a scan is refused behind so many items: the allowance is spent, or no whole tag follows
 pub data Why (allowance k : ℕ) (xs : List ℕ) (end items : ℕ) : ℕ → Carried → Type 0 where
   spent : items ≡ allowance → Why allowance k xs end items 14 (amount (k + items))
-  run-out : {c : Carried} → items < allowance → NoTag xs end c → Why allowance k xs end items 3 c
+  run-out : {c : Carried} → items < allowance → NoTagRead xs end c → Why allowance k xs end items 3 c
 
 pub record Stopped (allowance k : ℕ) (xs : List ℕ) (place r : ℕ) (c : Carried) (tags : ℕ) : Type 0 where
   pub end : ℕ
@@ -89,9 +89,9 @@ module _ (n start : ℕ) (xs : List ℕ) (small : length xs ≤ 65535) where
     count = omega (arith, y .count);
   }
 
-  says-turn : (f k unclosed place : ℕ) (s : Step) → Saw n unclosed xs place s
+  says-turn : (f k unclosed place : ℕ) (s : ScanStep) → Saw n unclosed xs place s
       → ((d p : ℕ) → let r = scanFrom f n start (k + 1) d xs p in Says f n start (k + 1) d xs p (r .answer) (r .tags))
-      → (let r = turn n start k place s (λ d p. scanFrom f n start (k + 1) d xs p) in Says (suc f) n start k unclosed xs place (r .answer) (r .tags))
+      → (let r = scanTurn n start k place s (λ d p. scanFrom f n start (k + 1) d xs p) in Says (suc f) n start k unclosed xs place (r .answer) (r .tags))
   says-turn f k unclosed place _ (no-tag g) rest = record { end = place; items = []; passed = none; why = run-out (omega arith) g; count = omega arith }
   says-turn f k unclosed place _ (ended z g) rest = record {
     end = place;
@@ -115,7 +115,7 @@ module _ (n start : ℕ) (xs : List ℕ) (small : length xs ≤ 65535) where
     why = subst (λ (j : ℕ). Why 0 k xs place 0 14 (amount j)) (let z : k + 0 ≡ k = omega arith in z) (spent refl);
     count = omega arith;
   }
-  scan-says (suc f) k unclosed place = says-turn f k unclosed place (stepFrom n unclosed xs place) (saw n unclosed xs small place) (λ d p. scan-says f (k + 1) d p)
+  scan-says (suc f) k unclosed place = says-turn f k unclosed place (scanStepFrom n unclosed xs place) (saw n unclosed xs small place) (λ d p. scan-says f (k + 1) d p)
 
 -- items lie one behind the other
 pub items-ahead : (xs : List ℕ) {place end : ℕ} {items : List Item} → ItemsRead xs place end items → place + length items ≤ end

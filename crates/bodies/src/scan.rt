@@ -3,7 +3,7 @@ ghost use mathlib.Core.Path.{_≡_};
 ghost use Prim.Native.Nat.{_+_, _<_, _≤_, _^_};
 ghost use lib.ListN.{length};
 ghost use Rattle.types.specs.Tag.{tagOf};
-ghost use Rattle.bodies.specs.Scan.{paperStep, stepAfter, stepFrom, paperBody, scanFrom};
+ghost use Rattle.bodies.specs.Scan.{paperStep, scanStepAfter, scanStepFrom, paperBody, scanFrom};
 use crate::body::BodyRead;
 use crate::item::content_length;
 use crate::item::plain_length;
@@ -22,7 +22,7 @@ enum Step {
 // What a tag that was read means for the scan of a body of that number, where so many more of its openings than closings were passed.
 fn step_after(number: u8, unclosed: usize, tag: Tag, next: usize) -> Step
     requires { ⌜ (unclosed + 1 < 2 ^ 64) × (next + 2 ^ 32 < 2 ^ 64) ⌝ }
-    ensures { λ r. ⌜ paperStep r ≡ stepAfter number unclosed (tagOf tag) next ⌝ }
+    ensures { λ r. ⌜ paperStep r ≡ scanStepAfter number unclosed (tagOf tag) next ⌝ }
 {
     let place = next + content_length(tag);
     let found = tag.number;
@@ -55,7 +55,7 @@ fn step_after(number: u8, unclosed: usize, tag: Tag, next: usize) -> Step
 // What the tag at a place, which may be past the end, means for the scan.
 fn step_at(number: u8, unclosed: usize, buf: &[u8], place: usize) -> Step
     requires { ⌜ (unclosed + 1 < 2 ^ 64) × (length (now buf) ≤ 65535) ⌝ }
-    ensures { λ r. ⌜ paperStep r ≡ stepFrom number unclosed (now (buf .entry)) place ⌝ }
+    ensures { λ r. ⌜ paperStep r ≡ scanStepFrom number unclosed (now (buf .entry)) place ⌝ }
 {
     if buf.len() <= place {
         return Step::Refused(Refusal::BytesRunOut(buf.len()));

@@ -1,4 +1,4 @@
--- What is written reads back as the same value, with the next place at its end.
+-- What is written reads back as the same value, its part holding the lent bytes, with the next place at its end.
 -- Assumes nothing.
 use mathlib.Core.Path.{_≡_, refl, _∙_, ap, sym, subst, subst₂}
 use mathlib.Core.Bool.{true, false}
@@ -6,7 +6,8 @@ use Prim.Native.Nat.{ℕ, suc, _+_, _-_, _*_, _/_, _%_, _^_, _<_, _≤_}
 use native.Mathlib.Omega.{arith}
 use mathlib.Core.List.{List, [], _∷_, _++_, append-assoc, append-nil}
 use lib.Dec.{T, ltb}
-use lib.ListN.{length, drop, length-append}
+use lib.ListN.{length, take, drop, length-append}
+use lib.Seq.{take-append-seam}
 use lib.IntN.{ℤ}
 use lib.Signed.{mag}
 use lib.Ieee.{Float, binary32, binary64, fits, toBits, ofBits}
@@ -19,7 +20,8 @@ use Rattle.types.specs.Answer.{Answer, accepted, refused}
 use Rattle.types.specs.Writing.{Left, left, Writable, can, cannot, unless, settled, writeAnswer, writing}
 use Rattle.types.proofs.Choices.{either}
 use Rattle.numbers.specs.Integer.{lowBytes, unsignedValue, unsignedBytes, signedBytes}
-use Rattle.numbers.specs.Reading.{partAt}
+use Rattle.numbers.specs.Reading.{partAt, bytesIn}
+use Rattle.numbers.proofs.Found.{behind}
 use Rattle.numbers.proofs.Low.{low-bytes-stand}
 use Rattle.numbers.proofs.Shortest.{unsigned-length, signed-length, signed-between, unsigned-shortest, signed-shortest}
 use Rattle.numbers.proofs.Least.{length-between}
@@ -37,7 +39,7 @@ use Rattle.values.specs.Content.{Content, ofBoolean, ofUnsigned, ofSigne
 use Rattle.values.proofs.Exactly.{read-exactly}
 use Rattle.values.proofs.Fits.{date-fits, id-fits}
 
--- the value as it reads back where its content begins at a place: text, octets and bits are the part that holds the lent bytes
+-- the value as it reads back where its content begins at a place: text, octets and bits are the part that lies there, as long as the lent bytes
 abbrev pub placed : Value → ℕ → List ℕ → Value
 placed (boolean b) p lent = boolean b
 placed (real x) p lent = real x
@@ -51,6 +53,21 @@ placed (enumerated x) p lent = enumerated x
 placed (bitString u q) p lent = bitString u (partAt (p + 1) (length lent))
 placed (unsignedInt x) p lent = unsignedInt x
 placed (signedInt x) p lent = signedInt x
+
+-- the bytes of a value's part, where it has one, are the lent ones
+abbrev pub PartHolds : Value → List ℕ → List ℕ → Type 0
+PartHolds (boolean b) ys lent = Unit {0}
+PartHolds (real x) ys lent = Unit {0}
+PartHolds (double x) ys lent = Unit {0}
+PartHolds (onDate d) ys lent = Unit {0}
+PartHolds (atTime t) ys lent = Unit {0}
+PartHolds (objectId n i) ys lent = Unit {0}
+PartHolds (characterString p) ys lent = bytesIn ys p ≡ lent
+PartHolds (octetString p) ys lent = bytesIn ys p ≡ lent
+PartHolds (enumerated x) ys lent = Unit {0}
+PartHolds (bitString u p) ys lent = bytesIn ys p ≡ lent
+PartHolds (unsignedInt x) ys lent = Unit {0}
+PartHolds (signedInt x) ys lent = Unit {0}
 
 -- a value that the program can hold: integers of their widths, floats of their formats
 abbrev pub Held : Value → Type 0
@@ -196,14 +213,41 @@ settled-could : (lent : ℕ) (w : Writable) (bytes xs : List ℕ) (place : ℕ) 
 settled-could lent w bytes xs place (accepted u next) h = h
 settled-could lent w bytes xs place (refused n c) h = tt
 
-accepted-could : (lent : ℕ) (w : Writable) (bytes xs : List ℕ) (place next : ℕ) (ys : List ℕ) → writing lent w bytes xs place ≡ left (accepted tt next) ys → (w ≡ can) × (lent ≤ 65535)
+pub accepted-could : (lent : ℕ) (w : Writable) (bytes xs : List ℕ) (place next : ℕ) (ys : List ℕ) → writing lent w bytes xs place ≡ left (accepted tt next) ys → (w ≡ can) × (lent ≤ 65535)
 unfolding writing
 accepted-could lent w bytes xs place next ys e =
     subst (λ (l : Left). Could lent w (l .answer)) e (settled-could lent w bytes xs place (writeAnswer lent w (length bytes) xs place) (could lent w (length bytes) xs place))
 
--- whatever `encode` writes, `decode` reads as the same value at the same place, with the next place at its end; what cannot be written is refused 12 or 10 and named by `writableValue`
-pub round-trip : (v : Value) (lent : List ℕ) → Held v → (xs : List ℕ) (place next : ℕ) (ys : List ℕ) → valueTo v lent xs place ≡ left (accepted tt next) ys
-    → valueFrom ys place ≡ accepted (placed v (place + length (tagBytes (tagUnder v lent))) lent) next
+-- the bytes of a part that stands at a place
+pub part-bytes : (xs : List ℕ) (p : ℕ) (bytes rest : List ℕ) → drop p xs ≡ bytes ++ rest → bytesIn xs (partAt p (length bytes)) ≡ bytes
+part-bytes xs p bytes rest e = ap (take (length bytes)) e ∙ take-append-seam bytes rest
+
+-- and of one that stands behind a byte
+pub part-bytes-behind : (xs : List ℕ) (p b : ℕ) (bytes rest : List ℕ) → drop p xs ≡ b ∷ (bytes ++ rest) → bytesIn xs (partAt (p + 1) (length bytes)) ≡ bytes
+part-bytes-behind xs p b bytes rest e = part-bytes xs (p + 1) bytes rest (behind xs p (b ∷ []) (bytes ++ rest) e)
+
+-- content that stands at a place has the lent bytes in the value's part
+holds-lent : (v : Value) (lent ys : List ℕ) (p : ℕ) (rest : List ℕ) → drop p ys ≡ contentUnder v lent ++ rest → PartHolds (placed v p lent) ys lent
+holds-lent (boolean b) lent ys p rest e = tt
+holds-lent (real x) lent ys p rest e = tt
+holds-lent (double x) lent ys p rest e = tt
+holds-lent (onDate d) lent ys p rest e = tt
+holds-lent (atTime t) lent ys p rest e = tt
+holds-lent (objectId n i) lent ys p rest e = tt
+holds-lent (characterString q) lent ys p rest e = part-bytes-behind ys p 0 lent rest e
+holds-lent (octetString q) lent ys p rest e = part-bytes ys p lent rest e
+holds-lent (enumerated x) lent ys p rest e = tt
+holds-lent (bitString u q) lent ys p rest e = part-bytes-behind ys p u lent rest e
+holds-lent (unsignedInt x) lent ys p rest e = tt
+holds-lent (signedInt x) lent ys p rest e = tt
+
+-- a value stands at a place of a buffer, up to the next: it is what is read there, and the bytes of its part, where it has one, are the lent ones
+pub record Stands (v : Value) (lent ys : List ℕ) (place next : ℕ) : Type 0 where
+  pub read : valueFrom ys place ≡ accepted (placed v (place + length (tagBytes (tagUnder v lent))) lent) next
+  pub holds : PartHolds (placed v (place + length (tagBytes (tagUnder v lent))) lent) ys lent
+
+-- whatever `encode` writes, `decode` reads as the same value at the same place, with the next place at its end, and of text, octets and bits the bytes that were lent; what cannot be written is refused 12 or 10 and named by `writableValue`
+pub round-trip : (v : Value) (lent : List ℕ) → Held v → (xs : List ℕ) (place next : ℕ) (ys : List ℕ) → valueTo v lent xs place ≡ left (accepted tt next) ys → Stands v lent ys place next
 unfolding valueTo
 round-trip v lent h xs place next ys e =
     let t : Tag = tagUnder v lent in
@@ -216,16 +260,19 @@ round-trip v lent h xs place next ys e =
     let s : length ys ≤ 65535 = omega (arith, ap length (w .buffer), over-length (valueBytes v lent) xs place (w .room), w .small) in
     let d : drop place ys ≡ header ++ (content ++ rest) =
     ap (drop place) (w .buffer) ∙ written-here (valueBytes v lent) xs place (w .room) ∙ ap (λ (l : List ℕ). l ++ rest) (bytes-are v lent) ∙ append-assoc header content rest in
-    read-exactly ys place (placed v (place + length header) lent) next .1 (
-      s,
-      record {
-        found = t;
-        header = header;
-        is-tag = header-is-tag (t .number) (t .value) (tag-in-range v lent (c .1));
-        content = content;
-        is = content-is v lent (c .0) h (place + length header);
-        rest = rest;
-        here = d;
-        ends = omega (arith, w .ends);
-      },
-    )
+    record {
+      read = read-exactly ys place (placed v (place + length header) lent) next .1 (
+        s,
+        record {
+          found = t;
+          header = header;
+          is-tag = header-is-tag (t .number) (t .value) (tag-in-range v lent (c .1));
+          content = content;
+          is = content-is v lent (c .0) h (place + length header);
+          rest = rest;
+          here = d;
+          ends = omega (arith, w .ends);
+        },
+      );
+      holds = holds-lent v lent ys (place + length header) rest (behind ys place header (content ++ rest) d);
+    }

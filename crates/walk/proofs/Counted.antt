@@ -64,7 +64,7 @@ lists-turn xs on place ns h (goes t next ms) w =
 
 lists-for : (f : ℕ) (xs : List ℕ) (place : ℕ) (ns : List ℕ) → Lists xs place (length ns) (walkFor f xs place ns)
 unfolding walkFor
-lists-for zero xs place ns = lists-none xs place (length ns) (atEnd xs ns)
+lists-for zero xs place ns = lists-none xs place (length ns) (stopped 0 (amount 0))
 lists-for (suc f) xs place ns = lists-turn xs (walkFor f xs) place ns (λ next ms. lists-for f xs next ms) (stepFrom xs place ns) (sees xs place ns)
 
 -- the tags of a walk are what a listing of as many from its place on, with no block open, finds
@@ -73,7 +73,7 @@ unfolding walkFrom walkOn
 lists xs place =
     either (Lists xs place 0) (ltb 65535 (length xs)) (λ u. lists-none xs place 0 (stopped 1 (amount (length xs)))) (λ u.
     either (Lists xs place 0) (ltb (length xs) place) (λ v. lists-none xs place 0 (stopped 2 (amount place))) (λ v.
-    lists-for (length xs) xs place []))
+    lists-for (suc (length xs)) xs place []))
 
 -- the count and the outcome that are reported determine the walk: its tags are those of a listing of so many, refusals included
 pub counted : (xs : List ℕ) (place count : ℕ) (o : Outcome) → reported (walkFrom xs place) ≡ report count o → walkFrom xs place ≡ walked (listed count xs place 0) o

@@ -49,7 +49,7 @@ exactly xs place tags = (
       let g = past-guards xs place tags e in (
         g .small,
         g .inside,
-        subst (Items place 0 (drop place xs)) (ap (λ (w : Walk). w .tags) (g .same)) (passing xs place (g .inside) (ap (λ (w : Walk). w .outcome) (g .same))),
+        subst (Items place 0 (drop place xs)) (ap (λ (w : Walk). w .tags) (g .same)) (passing xs place (ap (λ (w : Walk). w .outcome) (g .same))),
       )),
   (λ y. walked-whole xs place (y .0) (y .1) (y .2)),
 )

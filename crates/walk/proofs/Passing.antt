@@ -17,7 +17,7 @@ use Rattle.walk.specs.Tag.{itemFrom}
 use Rattle.walk.specs.Walk.{Seen, seen, Step, ends, goes, closingStep, stepBy, stepOf, atEnd, stepFrom, turn, walkFor, walkOn}
 use Rattle.walk.specs.Grammar.{Plain, Items}
 use Rattle.walk.specs.Grammar.Items.{none, plain, block}
-use Rattle.walk.proofs.Found.{item-found, item-moves-on, opening-found, closing-found}
+use Rattle.walk.proofs.Found.{item-found, opening-found, closing-found}
 
 -- the two kinds of item, with the places named
 plain′ : {p q d : ℕ} {t : Tag} (header content : List ℕ) {rest : List ℕ} {tags : List Seen} → Plain (t .number) → IsTag t header → length content ≡ contentLength t
@@ -130,27 +130,24 @@ passes-end xs f place (n ∷ ns) l e = absurd (never e)
 
 -- a step, where what follows it is known
 module _ (xs : List ℕ) (f place : ℕ)
-    (on : (next : ℕ) (ms : List ℕ) → place < next → next ≤ length xs → walkFor f xs next ms .outcome ≡ passed → Rest next ms (drop next xs) (walkFor f xs next ms .tags)) where
+    (on : (next : ℕ) (ms : List ℕ) → walkFor f xs next ms .outcome ≡ passed → Rest next ms (drop next xs) (walkFor f xs next ms .tags)) where
   passes-plain : (ns : List ℕ) (t : Tag) (next : ℕ) → Plain (t .number) → itemFrom xs place ≡ accepted t next → Passes xs f place ns (goes (seen place (length ns) t) next ns)
   passes-plain ns t next h g e =
       let i = item-found xs place t next g in
-      let m = item-moves-on xs place t next g in
       subst (λ (y : List ℕ). Rest place ns y (seen place (length ns) t ∷ walkFor f xs next ns .tags)) (sym (i .here))
-      (rest-plain (i .header) (i .content) h (i .is-tag) (i .sized) (i .ends) (on next ns (m .0) (m .1) e))
+      (rest-plain (i .header) (i .content) h (i .is-tag) (i .sized) (i .ends) (on next ns e))
 
   passes-opening : (ns : List ℕ) (n v next : ℕ) → itemFrom xs place ≡ accepted (tag (opening n) v) next → length ns < 16 → Passes xs f place ns (goes (seen place (length ns) (tag (opening n) v)) next (n ∷ ns))
   passes-opening ns n v next g l e =
       let i = opening-found xs place n v next g in
-      let m = item-moves-on xs place (tag (opening n) v) next g in
       subst₂ (λ (y : List ℕ) (w : ℕ). Rest place ns y (seen place (length ns) (tag (opening n) w) ∷ walkFor f xs next (n ∷ ns) .tags)) (sym (i .1 .here)) (sym (i .0))
-      (rest-opening (i .1 .header) l (i .1 .is-tag) (i .1 .ends) (on next (n ∷ ns) (m .0) (m .1) e))
+      (rest-opening (i .1 .header) l (i .1 .is-tag) (i .1 .ends) (on next (n ∷ ns) e))
 
   passes-innermost : (ns : List ℕ) (n v next : ℕ) → itemFrom xs place ≡ accepted (tag (closing n) v) next → Passes xs f place (n ∷ ns) (goes (seen place (length ns) (tag (closing n) v)) next ns)
   passes-innermost ns n v next g e =
       let i = closing-found xs place n v next g in
-      let m = item-moves-on xs place (tag (closing n) v) next g in
       subst₂ (λ (y : List ℕ) (w : ℕ). Rest place (n ∷ ns) y (seen place (length ns) (tag (closing n) w) ∷ walkFor f xs next ns .tags)) (sym (i .1 .here)) (sym (i .0))
-      (rest-closing (i .1 .header) (i .1 .is-tag) (i .1 .ends) (on next ns (m .0) (m .1) e))
+      (rest-closing (i .1 .header) (i .1 .is-tag) (i .1 .ends) (on next ns e))
 
   passes-closing : (ns : List ℕ) (n v next : ℕ) → itemFrom xs place ≡ accepted (tag (closing n) v) next → Passes xs f place ns (closingStep place ns n (tag (closing n) v) next)
   passes-closing [] n v next g = λ e. absurd (never e)
@@ -175,12 +172,12 @@ module _ (xs : List ℕ) (f place : ℕ)
   passes-from ns =
       either (Passes xs f place ns) (ltb place (length xs)) (λ u. passes-of ns (itemFrom xs place) refl) (λ u. passes-end xs f place ns (ltb-false place (length xs) u))
 
-passes : (xs : List ℕ) (f place : ℕ) (ns : List ℕ) → place ≤ length xs → length xs ≤ f + place → walkFor f xs place ns .outcome ≡ passed → Rest place ns (drop place xs) (walkFor f xs place ns .tags)
+passes : (xs : List ℕ) (f place : ℕ) (ns : List ℕ) → walkFor f xs place ns .outcome ≡ passed → Rest place ns (drop place xs) (walkFor f xs place ns .tags)
 unfolding walkFor
-passes xs zero place ns h l e = passes-end xs zero place ns (omega arith) e
-passes xs (suc f) place ns h l e = passes-from xs f place (λ next ms a b. passes xs f next ms b (omega arith)) ns e
+passes xs zero place ns e = absurd (never e)
+passes xs (suc f) place ns e = passes-from xs f place (passes xs f) ns e
 
 -- with no block open, it is a list of items alone
-pub passing : (xs : List ℕ) (place : ℕ) → place ≤ length xs → walkOn xs place [] .outcome ≡ passed → Items place 0 (drop place xs) (walkOn xs place [] .tags)
+pub passing : (xs : List ℕ) (place : ℕ) → walkOn xs place [] .outcome ≡ passed → Items place 0 (drop place xs) (walkOn xs place [] .tags)
 unfolding walkOn
-passing xs place h e = rest-items (passes xs (length xs) place [] h (omega arith) e)
+passing xs place e = rest-items (passes xs (suc (length xs)) place [] e)

@@ -46,22 +46,23 @@ pub end-step : (xs : List ℕ) (place : ℕ) (ns : List ℕ) → length xs ≤ p
 unfolding stepFrom
 end-step xs place ns h = simp (le-ltb place (length xs) h)
 
-same-turn : (xs : List ℕ) (place : ℕ) (f g : ℕ → List ℕ → Walk) → ((next : ℕ) (ns : List ℕ) → place < next → f next ns ≡ g next ns) → (s : Step) → Onward xs place s → turn s f ≡ turn s g
+same-turn : (xs : List ℕ) (place : ℕ) (f g : ℕ → List ℕ → Walk) → ((next : ℕ) (ns : List ℕ) → place < next → next ≤ length xs → f next ns ≡ g next ns) → (s : Step) → Onward xs place s → turn s f ≡ turn s g
 same-turn xs place f g h (ends o) w = refl
-same-turn xs place f g h (goes t next ns) w = ap (more t) (h next ns (w .0))
+same-turn xs place f g h (goes t next ns) w = ap (more t) (h next ns (w .0) (w .1))
 
-enough : (f g : ℕ) (xs : List ℕ) (place : ℕ) (ns : List ℕ) → length xs ≤ f + place → length xs ≤ g + place → walkFor f xs place ns ≡ walkFor g xs place ns
+-- as many steps as there are bytes from the place on, and one more, are as good as any number above
+enough : (f g : ℕ) (xs : List ℕ) (place : ℕ) (ns : List ℕ) → place ≤ length xs → length xs < f + place → length xs < g + place → walkFor f xs place ns ≡ walkFor g xs place ns
 unfolding walkFor
-enough zero zero xs place ns h k = refl
-enough zero (suc g) xs place ns h k = sym (ap (λ (s : Step). turn s (walkFor g xs)) (end-step xs place ns (omega arith)))
-enough (suc f) zero xs place ns h k = ap (λ (s : Step). turn s (walkFor f xs)) (end-step xs place ns (omega arith))
-enough (suc f) (suc g) xs place ns h k =
-    same-turn xs place (walkFor f xs) (walkFor g xs) (λ next ms l. enough f g xs next ms (omega arith) (omega arith)) (stepFrom xs place ns) (onward xs place ns)
+enough zero g xs place ns l h k = absurd (omega arith)
+enough (suc f) zero xs place ns l h k = absurd (omega arith)
+enough (suc f) (suc g) xs place ns l h k =
+    same-turn xs place (walkFor f xs) (walkFor g xs) (λ next ms a b. enough f g xs next ms b (omega arith) (omega arith)) (stepFrom xs place ns) (onward xs place ns)
 
 -- the walk is its first step, and then the walk from where that leads
 pub unfolds : (xs : List ℕ) (place : ℕ) (ns : List ℕ) → walkOn xs place ns ≡ turn (stepFrom xs place ns) (walkOn xs)
 unfolding walkOn walkFor
-unfolds xs place ns = enough (length xs) (suc (length xs)) xs place ns (omega arith) (omega arith)
+unfolds xs place ns =
+    same-turn xs place (walkFor (length xs) xs) (walkFor (suc (length xs)) xs) (λ next ms a b. enough (length xs) (suc (length xs)) xs next ms b (omega arith) (omega arith)) (stepFrom xs place ns) (onward xs place ns)
 
 -- each tag has a byte at least
 few-turn : (xs : List ℕ) (place : ℕ) (on : ℕ → List ℕ → Walk) → ((next : ℕ) (ns : List ℕ) → next ≤ length xs → length (on next ns .tags) + next ≤ length xs) → place ≤ length xs → (s : Step) → Onward xs place s
@@ -77,4 +78,4 @@ few (suc f) xs place ns l = few-turn xs place (walkFor f xs) (λ next ms m. few 
 -- the tags of a walk, and the place that it began at, are no more than the bytes
 pub a-byte-a-tag : (xs : List ℕ) (place : ℕ) (ns : List ℕ) → place ≤ length xs → length (walkOn xs place ns .tags) + place ≤ length xs
 unfolding walkOn
-a-byte-a-tag xs place ns l = few (length xs) xs place ns l
+a-byte-a-tag xs place ns l = few (suc (length xs)) xs place ns l

@@ -25,7 +25,7 @@ pub record Block (xs : List ℕ) (place depth n : ℕ) (later : List Seen) : Typ
   pub same-tags : map (λ (i : Item). i .tag) items ≡ map (λ (t : Seen). t .tag) inner
   pub hands-over : (allowance : ℕ) → length items < allowance → bodyFrom allowance xs place ≡ given body
 
-abbrev pub BlockIf : List ℕ → Number → ℕ → ℕ → List Seen → Type 0
+abbrev pub BlockIf : List ℕ → Number → (place depth : ℕ) → (later : List Seen) → Type 0
 BlockIf xs (opening n) place depth later = Block xs place depth n later
 BlockIf xs (closing n) place depth later = Unit {0}
 BlockIf xs (application n) place depth later = Unit {0}

@@ -21,7 +21,7 @@ Plain (closing n) = ⊥
 --   a plain item (the bytes of its tag, and as much content as the tag says), and more items; or
 --   a block (an opening tag, a list of items one deeper, and a closing tag of the same number), where fewer than sixteen blocks are open around it, and more items.
 -- (`a ++ b` is a and then b, `t ∷ ts` is t and then ts, `[]` is nothing; what stands before an arrow is asked, and the last line is what then is one)
-pub data Items : ℕ → ℕ → List ℕ → List Seen → Type 0 where
+pub data Items : (place depth : ℕ) → (bytes : List ℕ) → (tags : List Seen) → Type 0 where
   none : {place depth : ℕ} → Items place depth [] []
   plain : {place depth : ℕ} {t : Tag} (header content : List ℕ) {rest : List ℕ} {tags : List Seen}
       → Plain (t .number) → IsTag t header → length content ≡ contentLength t

@@ -7,11 +7,11 @@ use Rattle.walk.specs.Tag.{Standing, tagAt}
 use Rattle.walk.specs.Walk.{Seen, seen}
 
 -- a tag, and those from the place after it on, with the blocks then open; none after a refusal
-abbrev pub listedBy : ℕ → Answer Standing → (ℕ → ℕ → List Seen) → List Seen
+abbrev pub listedBy : (place : ℕ) → Answer Standing → ((place blocks : ℕ) → List Seen) → List Seen
 listedBy place (accepted s next) on = seen place (s .depth) (s .tag) ∷ on next (s .blocks)
 listedBy place (refused n c) on = []
 
 -- so many tags from a place on, where so many blocks are open
-unfoldable pub listed : ℕ → List ℕ → ℕ → ℕ → List Seen
+unfoldable pub listed : (count : ℕ) → List ℕ → (place blocks : ℕ) → List Seen
 listed zero xs place blocks = []
 listed (suc count) xs place blocks = listedBy place (tagAt xs place blocks) (listed count xs)

@@ -4,7 +4,7 @@ use borrow.Author.Needs.{needs}
 use native.Mathlib.Omega.{arith}
 use mathlib.Core.Path.{_≡_, sym, ap, _∙_}
 use Prim.Native.Nat.{_+_, _-_, _≤_, _<_}
-use Rattle.bodies.specs.Scan.{paperStep, stepFrom, scanFrom, onward}
+use Rattle.bodies.specs.Scan.{paperStep, scanStepFrom, scanFrom, onward}
 use Rattle.bodies.proofs.Turns.{none-spent, spent, turned, onward-moves}
 use Rattle.bodies.proofs.scan.scan.Statement.{statement}
 use Rattle.bodies.proofs.scan.scan.Tie as tie
@@ -58,7 +58,7 @@ loop-again : tie.Need-loop-again Inv-loop μ-loop
 loop-again c =
     let l = c .before .before .before .before .before .loop in
     let a = c .before .before .before .before .before .before .before .args in
-    let e : stepFrom (a .number) (l .unclosed) (a .buf .now) (l .place) ≡ onward (c .before .d .given .0 .0) (c .before .d .given .0 .1 .0) = sym (c .before .before .before .step-at .ensures) ∙ ap paperStep (c .before .d .given .1) in
+    let e : scanStepFrom (a .number) (l .unclosed) (a .buf .now) (l .place) ≡ onward (c .before .d .given .0 .0) (c .before .d .given .0 .1 .0) = sym (c .before .before .before .step-at .ensures) ∙ ap paperStep (c .before .d .given .1) in
     let o : (c .before .d .given .0 .0 ≤ l .unclosed + 1) × (l .place < c .before .d .given .0 .1 .0) = onward-moves (a .number) (l .unclosed) (a .buf .now) (l .place) e in
     (omega arith, omega arith, omega arith, sym (turned (a .number) (a .start) (a .allowance) (l .tags) (l .unclosed) (a .buf .now) (l .place) (l .inv .3) (c .before .before .before .before .loop-test .taken) e))
 

@@ -1,4 +1,4 @@
--- `bodies::step_at` meets its contract: at the end there is no tag, a plain item whose tag has one byte is passed by that byte, and else the answer of `decode` says which case of `stepFrom` holds.
+-- `bodies::step_at` meets its contract: at the end there is no tag, a plain item whose tag has one byte is passed by that byte, and else the answer of `decode` says which case of `scanStepFrom` holds.
 -- Assumes nothing.
 use borrow.Author.Needs.{needs}
 use native.Mathlib.Omega.{arith}
@@ -8,7 +8,7 @@ use lib.ListN.{length}
 use borrow.Author.Tests.{le-ltb}
 use Rattle.tags.specs.Reading.{paperTag}
 use Rattle.tags.proofs.Exactly.{moves-on}
-use Rattle.bodies.specs.Scan.{stepFrom}
+use Rattle.bodies.specs.Scan.{scanStepFrom}
 use Rattle.bodies.proofs.Plain.{plain-step, end-step}
 use Rattle.bodies.proofs.scan.step_at.Statement.{statement}
 use Rattle.bodies.proofs.scan.step_at.Tie as tie
@@ -48,11 +48,11 @@ enum-known-r : tie.Need-enum-known-r
 enum-known-r c = search needs
 
 returns-3 : tie.Need-returns-3
-unfolding stepFrom
+unfolding scanStepFrom
 returns-3 c = simp (le-ltb _ _ (let h = c .before .before .before .before .before .before .before .before .if1 .left in let z : c .before .before .before .before .before .before .before .before .before .before .args .place ≤ length (c .before .before .before .before .before .before .before .before .before .before .args .buf .now) = omega arith in z), sym (c .before .before .before .before .decode .ensures) ∙ ap paperTag (c .before .before .tag .given .1)) (c .step-after .ensures)
 
 returns-4 : tie.Need-returns-4
-unfolding stepFrom
+unfolding scanStepFrom
 returns-4 c = simp (le-ltb _ _ (let h = c .before .before .before .before .before .before .before .if1 .left in let z : c .before .before .before .before .before .before .before .before .before .args .place ≤ length (c .before .before .before .before .before .before .before .before .before .args .buf .now) = omega arith in z), sym (c .before .before .before .decode .ensures) ∙ ap paperTag (c .before .r .given .1))
 
 pub step-at-spec : {M : Type 1} → statement M
