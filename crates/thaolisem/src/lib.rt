@@ -1,4 +1,4 @@
-// The calls that a program in C or Rust makes: numbers and byte slices in, eight numbers out.
+// The calls that a program in C or Rust makes: numbers and byte slices in, eight numbers out; and the version of these calls.
 mod answer;
 mod body;
 mod header;
