@@ -59,6 +59,10 @@ static uint32_t real_at(size_t place) {
 }
 
 int main(void) {
+    if (thaolisem_version() != THAOLISEM_VERSION) {
+        printf("the library has version %" PRIu64 ", the header is for %d\n", thaolisem_version(), THAOLISEM_VERSION);
+        return 1;
+    }
     thaolisem_decode_header(frame, sizeof frame, 0, answer);
     need(answer[1] == COMPLEX);
     uint8_t id = (uint8_t)answer[2], choice = (uint8_t)answer[3];

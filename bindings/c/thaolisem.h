@@ -1,7 +1,8 @@
 /* Thaolisem: a codec for BACnet's application layer (ASHRAE 135, clauses 20.1 and 20.2).
 
-   Every function puts eight numbers into the array that the caller lends. The first is 0 where
-   the call is accepted, else the refusal's number; those that a row below does not name are 0.
+   Every function but the first puts eight numbers into the array that the caller lends. The first
+   of them is 0 where the call is accepted, else the refusal's number; those that a row below does
+   not name are 0.
 
      a refusal   number, class, a, b, count
                    class 0: a is what the refusal carries
@@ -35,6 +36,9 @@
    A value is written from the same fields, except that text, octets and bits have no place and
    no length: their content is the whole lent slice. A field that the case has not is not read.
 
+   NaN: the bits of a Real or Double are kept, read or written, unless they are a NaN's. Every NaN
+   is read as 7FC00000 or 7FF8000000000000, and written so, whatever its sign and payload were.
+
    Kinds of a header (the PDU type), and their fields from a on:
       0 confirmed request         segments, size, invoke id, service choice
       2 simple acknowledgement    invoke id, service choice
@@ -60,9 +64,25 @@
      16 a seventeenth block open at once                 its place
      17 other PDU type, or segment bit set               the control byte
      18 enumerated value above 4,294,967,295             0
+   5 is given by no function here.
 
-   A refused write changes no byte of the buffer; one that is accepted changes only the bytes from
-   the place to the next place.
+   All that gives 12, each in a write:
+     tag         a class that is not 1 to 4; an application number above 15;
+                 an opening or a closing with a value that is not 0
+     integer     a class that is not 1 or 2
+     boolean     a value that is not 0 or 1, under a context tag and as a value
+     value       a case that is not 1 to 12
+     Real        bits above 4,294,967,295
+     Date        a year outside 1900 to 2155; a month, day or day of the week above 255
+     Time        a field above 255
+     ObjectId    a type above 1,023; an instance above 4,194,303
+     Bits        more than 7 unused bits; unused bits with no bytes
+     Enumerated  as a value, one above 4,294,967,295
+     header      a kind that is not 0, 2, 3 or 4; segments or size of a request above 15
+
+   A read tests 1, then 2, then what the bytes tell as they come; a write tests 1, 2, 12, then 11 or
+   10, then 13. A refused write changes no byte of the buffer; one that is accepted changes only the
+   bytes from the place to the next place.
 
    The caller answers for what C cannot say: a pointer is not null, also with a length of 0; so many
    bytes can be read there, in `buf` of a writer written too; `answer` has room for eight numbers;
@@ -77,40 +97,62 @@
 extern "C" {
 #endif
 
+/* The version of the calls that this header declares. */
+#define THAOLISEM_VERSION 1
+
+/* The version of the library's calls; where it is not THAOLISEM_VERSION, this header is of another library, and no other function is to be called. */
+uint64_t thaolisem_version(void);
+
 /* Reads, at a place of a buffer. */
 
+/* The tag at a place. Refused 1, 2, 3. */
 void thaolisem_decode_tag(const uint8_t *buf, size_t len, size_t place, uint64_t answer[8]);
 
-/* An integer whose content has so many bytes, 1 to 8. */
+/* The unsigned integer whose content, 1 to 8 bytes, begins at a place; `content` is its length, as a tag's value gives it. Refused 1, 2, 7, 3. */
 void thaolisem_decode_unsigned(uint32_t content, const uint8_t *buf, size_t len, size_t place, uint64_t answer[8]);
+
+/* The signed integer, in two's complement, whose content begins at a place. Refused 1, 2, 7, 3. */
 void thaolisem_decode_signed(uint32_t content, const uint8_t *buf, size_t len, size_t place, uint64_t answer[8]);
 
-/* A body, of any number or of the one expected, with so many tags read after its opening at the most. */
+/* The body whose opening tag is at a place, with so many tags read after its opening at the most. Refused 1, 2, 3, 6, 14; only 3 and 6 say that there is none. */
 void thaolisem_get_tagged_body(size_t allowance, const uint8_t *buf, size_t len, size_t place, uint64_t answer[8]);
+
+/* The same, where the opening tag is to have the number expected. Refused 1, 2, 3, 4, 14; only 3 and 4 say that there is none. */
 void thaolisem_get_tagged_body_for_tag(uint8_t expected, size_t allowance, const uint8_t *buf, size_t len, size_t place, uint64_t answer[8]);
 
-/* The strict walk, from a place to the buffer's end. */
+/* The strict walk, from a place to the buffer's end: every block closed by its own tag, all content inside. Refused 1, 2, 3, 15, 16, with the tags accepted before. */
 void thaolisem_walk(const uint8_t *buf, size_t len, size_t place, uint64_t answer[8]);
 
+/* The value under the application tag at a place; text, octets and bits as a part of the buffer. Refused 1, 2, 3, 7, 8, 9, 10, 18. */
 void thaolisem_decode_value(const uint8_t *buf, size_t len, size_t place, uint64_t answer[8]);
+
+/* The header whose control byte is at a place; its body begins at the next place. Refused 1, 2, 3, 11, 17. */
 void thaolisem_decode_header(const uint8_t *buf, size_t len, size_t place, uint64_t answer[8]);
 
-/* A whole text, of any length: 1 is never given. */
+/* Whether a whole text, of any length, is UTF-8. Refused 10. */
 void thaolisem_check_utf8(const uint8_t *text, size_t len, uint64_t answer[8]);
 
-/* Writes, at a place of a buffer. */
+/* Writes, at a place of a buffer. Each is refused 1, 2, 12 and 13, and what is named with it. */
 
+/* A tag alone, by its class, number and value. */
 void thaolisem_encode_tag(uint8_t tag_class, uint8_t number, uint32_t value, uint8_t *buf, size_t len, size_t place, uint64_t answer[8]);
 
-/* An integer under the application tag of its kind (class 1, number not read) or under a context tag (class 2). */
+/* An unsigned integer in the fewest bytes, under application tag 2 (class 1, number not read) or a context tag (class 2). */
 void thaolisem_encode_unsigned(uint8_t tag_class, uint8_t number, uint64_t value, uint8_t *buf, size_t len, size_t place, uint64_t answer[8]);
+
+/* A signed integer in the fewest bytes, under application tag 3 (class 1, number not read) or a context tag (class 2). */
 void thaolisem_encode_signed(uint8_t tag_class, uint8_t number, int64_t value, uint8_t *buf, size_t len, size_t place, uint64_t answer[8]);
+
+/* An enumerated value, as an unsigned integer of any size, under application tag 9 (class 1, number not read) or a context tag (class 2). */
 void thaolisem_encode_enumerated(uint8_t tag_class, uint8_t number, uint64_t value, uint8_t *buf, size_t len, size_t place, uint64_t answer[8]);
 
-/* A boolean, 0 or 1, under a context tag. */
+/* A boolean, 0 or 1, under a context tag, as one byte of content. */
 void thaolisem_encode_context_bool(uint8_t number, uint8_t value, uint8_t *buf, size_t len, size_t place, uint64_t answer[8]);
 
+/* A value under its application tag, by its case and fields; the lent slice is the content of text, octets and bits, and of no other case. Refused 10 too, and 1 also for a lent slice that is too long, whatever the case. */
 void thaolisem_encode_value(uint8_t value_case, uint64_t a, uint64_t b, uint64_t c, uint64_t d, const uint8_t *content, size_t content_len, uint8_t *buf, size_t len, size_t place, uint64_t answer[8]);
+
+/* A header alone, by its kind and fields; a field that the kind has not is not read. Refused 11 too. */
 void thaolisem_encode_header(uint8_t kind, uint8_t a, uint8_t b, uint8_t c, uint8_t d, uint8_t *buf, size_t len, size_t place, uint64_t answer[8]);
 
 #ifdef __cplusplus

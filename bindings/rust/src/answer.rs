@@ -1,4 +1,5 @@
 //! What a call answers, from the eight numbers by which the library tells it.
+use crate::declared::THAOLISEM_VERSION;
 use crate::tag::Tag;
 use core::fmt;
 
@@ -8,7 +9,7 @@ pub(crate) type Numbers = [u64; 8];
 /// Why a call was not accepted.
 #[derive(Debug, Clone, Copy, PartialEq, Eq)]
 pub struct Refusal {
-    /// 1 to 18, by the table in bindings/c/thaolisem.h; 0 where the library told what this crate has no name for, as one of another version might.
+    /// 1 to 18, by the table in bindings/c/thaolisem.h; 0 where the library is not this crate's: one of another version, which is carried, or, carrying 0, one that told what has no name here.
     pub number: u64,
     /// What the table says that it carries.
     pub carried: Carried,
@@ -19,7 +20,7 @@ pub struct Refusal {
 /// What a refusal carries.
 #[derive(Debug, Clone, Copy, PartialEq, Eq)]
 pub enum Carried {
-    /// A length, a place, a byte or a count; 0 where the table says 0.
+    /// A length, a place, a byte or a count; 0 where the table says 0; under number 0 the library's version.
     Amount(u64),
     /// The tag found, in 4, 5, 6 and 8.
     TagFound(Tag),
@@ -43,11 +44,18 @@ impl Refusal {
 impl fmt::Display for Refusal {
     fn fmt(&self, out: &mut fmt::Formatter) -> fmt::Result {
         match self.carried {
+            Carried::Amount(version) if self.number == 0 && version != 0 => {
+                let needed = THAOLISEM_VERSION;
+                write!(out, "the library has version {version}, this crate needs {needed}")
+            }
             Carried::Amount(amount) => write!(out, "refused {} carrying {amount}", self.number),
             Carried::TagFound(tag) => write!(out, "refused {} carrying {tag:?}", self.number),
         }
     }
 }
+
+/// The first number where the library was not called, as it has another version; what it carries is that version.
+pub(crate) const OTHER_VERSION: u64 = u64::MAX;
 
 /// Whether an answer is accepted, else its refusal.
 #[inline]
@@ -69,7 +77,8 @@ pub(crate) fn refusal(told: &Numbers) -> Refusal {
             None => return Refusal::UNNAMED,
         },
     };
-    Refusal { number: told[0], carried, tags: told[4] as usize }
+    let number = if told[0] == OTHER_VERSION { 0 } else { told[0] };
+    Refusal { number, carried, tags: told[4] as usize }
 }
 
 /// The part of a buffer that a place and a length tell, where it lies inside.

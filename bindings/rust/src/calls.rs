@@ -5,20 +5,32 @@
 //! - Nothing overlaps what is written: a `&mut` slice overlaps no other slice, and the array for the answer is a local of `answer_of`.
 //! - The library reads and writes these slices and that array alone, never past their ends, and it comes back: that is proved of every function, for every input.
 //! - It puts all eight numbers into the array, whatever stood there: that is each function's promise. So the array need not be cleared before.
+//! - These are promises of one version of the library. Its number is asked before the first call, and of another version nothing else is called.
 use crate::answer::{part, Numbers};
 use crate::declared::*;
+use crate::version;
 use core::mem::MaybeUninit;
 
-/// The eight numbers that a call puts into the array lent to it.
+/// The eight numbers that a call puts into the array lent to it; where the library has another version, the refusal that says so.
 ///
 /// # Safety
 ///
 /// The call puts all eight.
 #[inline]
 unsafe fn answer_of(call: impl FnOnce(*mut Numbers)) -> Numbers {
+    if !version::same() {
+        return version::refused();
+    }
     let mut answer = MaybeUninit::uninit();
     call(answer.as_mut_ptr());
     answer.assume_init()
+}
+
+/// The library's version.
+#[inline]
+pub fn version() -> u64 {
+    // Sound: in every version this function takes nothing and answers a number.
+    unsafe { thaolisem_version() }
 }
 
 /// The tag at a place.

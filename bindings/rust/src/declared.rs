@@ -1,8 +1,13 @@
 //! The functions of the static library, as bindings/c/thaolisem.h declares them.
 use crate::answer::Numbers;
 
+/// The version of the library that this crate speaks to.
+pub const THAOLISEM_VERSION: u64 = 1;
+
 #[link(name = "thaolisem", kind = "static")]
 extern "C" {
+    pub fn thaolisem_version() -> u64;
+
     pub fn thaolisem_decode_tag(buf: *const u8, len: usize, place: usize, answer: *mut Numbers);
 
     pub fn thaolisem_decode_unsigned(

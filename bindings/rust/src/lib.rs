@@ -2,8 +2,12 @@
 //! static library, under the names of embedded-bacnet.
 //!
 //! Every call answers on every input. A refused read moves no reader, a refused write moves no writer and changes no byte.
+//! Where the library is of another version than this crate, every call of it is refused 0.
 #![no_std]
 #![deny(unsafe_code)]
+
+#[cfg(not(all(target_arch = "x86_64", target_pointer_width = "64", target_os = "linux")))]
+compile_error!("thaolisem is for x86-64 Linux alone: the Rattle kit, which builds the static library behind it, compiles for no other system");
 
 mod answer;
 mod block;
@@ -20,6 +24,7 @@ mod tag;
 mod unnamed;
 mod utf8;
 mod value;
+mod version;
 mod walk;
 mod writer;
 

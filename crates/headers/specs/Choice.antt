@@ -8,6 +8,6 @@ abbrev pub below : ℕ → List ℕ
 below zero = []
 below (suc n) = below n ++ (n ∷ [])
 
--- 0 to 33: each choice's number is its place in the standard's list
+-- 0 to 33: each choice's number is its place in the standard's list. Which name stands for which number is no part of this: the oracle holds the names to the given Rust's enum
 abbrev pub serviceChoices : List ℕ
 serviceChoices = below 34

@@ -1,4 +1,4 @@
-// The confirmed service choices; there is none above the last.
+// The confirmed service choices; there is none above the last. The oracle holds the names to the given Rust's enum.
 ghost use mathlib.Core.Path.{_≡_};
 ghost use Rattle.headers.specs.Choice.{serviceChoices};
 

@@ -42,10 +42,10 @@ use Rattle.bodies.proofs.Single.{single-body}
 use Rattle.walk.specs.Walk.{Report, report, paperWalked}
 use Rattle.walk.specs.declared.walking.Walked.{Walked}
 use Rattle.walk.proofs.Single.{single-walked}
-use Rattle.utf8.specs.Check.{Verdict, good, badAt}
 use Rattle.utf8.specs.Answer.{paperCheck}
 use Rattle.utf8.proofs.Single.{single-checked}
 use Rattle.utf8.specs.declared.Checked.{Checked}
+use Rattle.utf8.specs.declared.Checked.the-variants as k
 use Rattle.values.specs.Value.{Value, boolean, real, double, onDate, atTime, objectId, characterString, octetString, enumerated, bitString, unsignedInt, signedInt, date, time, valueOf}
 use Rattle.values.specs.Reading.{paperValue}
 use Rattle.values.specs.declared.reading.ValueRead.{ValueRead}
@@ -279,15 +279,16 @@ header-again (hr.Refused x) = refusal-again headerFields x 0
 pub single-told-header : (x y : HeaderRead) → toldHeader (paperHeader x) ≡ toldHeader (paperHeader y) → x ≡ y
 single-told-header x y e = single-header-read x y (apart toldHeader headerBack (paperHeader x) (paperHeader y) (header-again x) (header-again y) e)
 
-abbrev checkBack : List ℕ → Verdict
-checkBack l = if (eqb (at l 0) 0) good (badAt (at l 2))
+abbrev checkBack : List ℕ → Outcome
+checkBack l = outcomeIn (answer noFields l)
 
-check-again : (x : Verdict) → checkBack (toldCheck x) ≡ x
-check-again good = refl
-check-again (badAt place) = refl
+check-again : (x : Checked) → checkBack (toldCheck (paperCheck x)) ≡ paperCheck x
+unfolding paperCheck
+check-again k.Good = refl
+check-again (k.BadAt place) = refl
 
 pub single-told-check : (x y : Checked) → toldCheck (paperCheck x) ≡ toldCheck (paperCheck y) → x ≡ y
-single-told-check x y e = single-checked x y (apart toldCheck checkBack (paperCheck x) (paperCheck y) (check-again (paperCheck x)) (check-again (paperCheck y)) e)
+single-told-check x y e = single-checked x y (apart toldCheck checkBack (paperCheck x) (paperCheck y) (check-again x) (check-again y) e)
 
 abbrev writeFields : List ℕ → Answer (Unit {0})
 writeFields l = accepted tt (at l 1)

@@ -71,9 +71,9 @@ unfoldable pub headerNamedTo : ℕ → ℕ → ℕ → ℕ → ℕ → List ℕ 
 headerNamedTo kind a b c d xs place = namedTo 0 (headerNamed kind a b c d) headerTo xs place
 
 -- the program's enums for what is named
-abbrev pub paperNumber : program-number.NumberNamed → Option Number
-paperNumber (n.Number x) = some (numberOf x)
-paperNumber n.Nothing = none
+abbrev pub paperNumberNamed : program-number.NumberNamed → Option Number
+paperNumberNamed (n.Number x) = some (numberOf x)
+paperNumberNamed n.Nothing = none
 
 abbrev pub paperUnder : ℕ → program-under.ContextTagNamed → Option Number
 paperUnder kind (c.ContextTag x) = some (numberUnder kind x)

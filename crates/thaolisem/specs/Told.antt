@@ -12,7 +12,6 @@ use Rattle.numbers.specs.Integer.{patternOf}
 use Rattle.tags.specs.Item.{booleanByte}
 use Rattle.bodies.specs.Scan.{Body, Counted}
 use Rattle.walk.specs.Walk.{Report}
-use Rattle.utf8.specs.Check.{Verdict, good, badAt}
 use Rattle.values.specs.Value as values
 use Rattle.headers.specs.Header as headers
 
@@ -106,10 +105,10 @@ abbrev pub toldHeader : Answer headers.Header → List ℕ
 toldHeader (accepted h next) = headerTold h next
 toldHeader (refused n c) = toldRefusal n c 0
 
--- a check of text: 10 with the first bad place where it is not UTF-8
-abbrev pub toldCheck : Verdict → List ℕ
-toldCheck good = eight 0 0 0 0 0 0 0 0
-toldCheck (badAt place) = toldRefusal 10 (amount place) 0
+-- a check of text
+abbrev pub toldCheck : Outcome → List ℕ
+toldCheck passed = eight 0 0 0 0 0 0 0 0
+toldCheck (stopped n c) = toldRefusal n c 0
 
 -- a write: next place
 abbrev pub toldWrite : Answer (Unit {0}) → List ℕ

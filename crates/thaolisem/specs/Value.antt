@@ -17,25 +17,25 @@ use Rattle.thaolisem.specs.declared.named.ValueNamed as program
 use Rattle.thaolisem.specs.declared.named.ValueNamed.the-variants as v
 
 -- what is named where a number is at most so large
-abbrev pub upTo : ℕ → ℕ → Option Value → Option Value
-upTo most x named = if (ltb most x) none named
+abbrev pub ifAtMost : ℕ → ℕ → Option Value → Option Value
+ifAtMost most x named = if (ltb most x) none named
 
 unfoldable pub dateNamed : ℕ → ℕ → ℕ → ℕ → Option Value
-dateNamed y m d w = upTo 65535 y (upTo 255 m (upTo 255 d (upTo 255 w (some (onDate (date y m d w))))))
+dateNamed y m d w = ifAtMost 65535 y (ifAtMost 255 m (ifAtMost 255 d (ifAtMost 255 w (some (onDate (date y m d w))))))
 
 unfoldable pub timeNamed : ℕ → ℕ → ℕ → ℕ → Option Value
-timeNamed h m s c = upTo 255 h (upTo 255 m (upTo 255 s (upTo 255 c (some (atTime (time h m s c))))))
+timeNamed h m s c = ifAtMost 255 h (ifAtMost 255 m (ifAtMost 255 s (ifAtMost 255 c (some (atTime (time h m s c))))))
 
 unfoldable pub objectIdNamed : ℕ → ℕ → Option Value
-objectIdNamed k i = upTo 65535 k (upTo 4294967295 i (some (objectId k i)))
+objectIdNamed k i = ifAtMost 65535 k (ifAtMost 4294967295 i (some (objectId k i)))
 
 -- text, octets and bits have their content from the lent slice, and bits their unused count besides; a signed integer is named by its two's complement in 64 bits
 unfoldable pub contentNamed : ℕ → ℕ → Option Value
 contentNamed case a =
     if (eqb case 7) (some (characterString (partAt 0 0)))
     (if (eqb case 8) (some (octetString (partAt 0 0)))
-    (if (eqb case 9) (upTo 255 a (some (bitString a (partAt 0 0))))
-    (if (eqb case 10) (upTo 4294967295 a (some (enumerated a)))
+    (if (eqb case 9) (ifAtMost 255 a (some (bitString a (partAt 0 0))))
+    (if (eqb case 10) (ifAtMost 4294967295 a (some (enumerated a)))
     (if (eqb case 11) (some (unsignedInt a))
     (if (eqb case 12) (some (signedInt (twosComplement 8 a)))
     none)))))
@@ -43,8 +43,8 @@ contentNamed case a =
 -- a float is named by its bits
 unfoldable pub valueNamed : ℕ → ℕ → ℕ → ℕ → ℕ → Option Value
 valueNamed case a b c d =
-    if (eqb case 1) (upTo 1 a (some (boolean (eqb a 1))))
-    (if (eqb case 2) (upTo 4294967295 a (some (real (ofBits binary32 a))))
+    if (eqb case 1) (ifAtMost 1 a (some (boolean (eqb a 1))))
+    (if (eqb case 2) (ifAtMost 4294967295 a (some (real (ofBits binary32 a))))
     (if (eqb case 3) (some (double (ofBits binary64 a)))
     (if (eqb case 4) (dateNamed a b c d)
     (if (eqb case 5) (timeNamed a b c d)

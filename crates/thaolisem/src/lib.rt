@@ -1,4 +1,4 @@
-// The calls that a program in C or Rust makes: numbers and byte slices in, eight numbers out.
+// The calls that a program in C or Rust makes: numbers and byte slices in, eight numbers out; and the version of these calls.
 mod answer;
 mod body;
 mod header;
@@ -7,6 +7,7 @@ mod named;
 mod tag;
 mod text;
 mod value;
+mod version;
 
 pub use body::thaolisem_get_tagged_body;
 pub use body::thaolisem_get_tagged_body_for_tag;
@@ -24,3 +25,4 @@ pub use tag::thaolisem_encode_tag;
 pub use text::thaolisem_check_utf8;
 pub use value::thaolisem_decode_value;
 pub use value::thaolisem_encode_value;
+pub use version::thaolisem_version;

@@ -2,7 +2,7 @@
 ghost use mathlib.Core.Path.{_≡_};
 ghost use Rattle.tags.specs.Reading.{tagFrom};
 ghost use Rattle.thaolisem.specs.Told.{toldTag, toldWrite};
-ghost use Rattle.thaolisem.specs.Named.{paperNumber, applicationNamed, numberNamed, tagNamedTo};
+ghost use Rattle.thaolisem.specs.Named.{paperNumberNamed, applicationNamed, numberNamed, tagNamedTo};
 use crate::answer::class_of;
 use crate::answer::nothing_named;
 use crate::answer::number_in;
@@ -76,7 +76,7 @@ pub extern "C" fn thaolisem_encode_tag(
 
 // The class and number that two numbers name.
 fn number_named(class: u8, number: u8) -> NumberNamed
-    ensures { λ r. ⌜ paperNumber r ≡ numberNamed class number ⌝ }
+    ensures { λ r. ⌜ paperNumberNamed r ≡ numberNamed class number ⌝ }
 {
     match class {
         1 => application_named(number),
@@ -89,7 +89,7 @@ fn number_named(class: u8, number: u8) -> NumberNamed
 
 // The application tag of a number; none above 15.
 fn application_named(number: u8) -> NumberNamed
-    ensures { λ r. ⌜ paperNumber r ≡ applicationNamed number ⌝ }
+    ensures { λ r. ⌜ paperNumberNamed r ≡ applicationNamed number ⌝ }
 {
     match number {
         0 => NumberNamed::Number(TagNumber::Application(ApplicationTagNumber::Null)),

@@ -9,8 +9,8 @@ use lib.ListN.{length, take, drop, length-append, take-append-drop}
 use lib.Seq.{length-take-le, drop-at}
 use Rattle.utf8.specs.Table.{UTF8-char}
 use Rattle.utf8.specs.Text.{Character, Text}
-use Rattle.utf8.specs.Text.Text.{empty, then}
-use Rattle.utf8.specs.Check.{Verdict, good, badAt, sequenceLength, begun, checkFrom}
+use Rattle.utf8.specs.Text.Text.{empty, followed}
+use Rattle.utf8.specs.Check.{Verdict, good, badAt, sequenceLength, afterFirst, checkFrom}
 use Rattle.utf8.proofs.Characters.{character-found, character-long, sequence-exactly}
 use Rattle.utf8.proofs.Places.{sequence-passed}
 
@@ -27,7 +27,7 @@ character-passed {bytes} place rest c = by-length (length bytes) refl (character
 -- a text is passed whole
 pub text-passed : {text : List ℕ} (place : ℕ) (rest : List ℕ) → Text text → checkFrom place 0 (text ++ rest) ≡ checkFrom (place + length text) 0 rest
 text-passed place rest empty = ap (λ (p : ℕ). checkFrom p 0 rest) (sym (add-zero place))
-text-passed place rest (then {bytes} {rest = more} c t) =
+text-passed place rest (followed {bytes} {rest = more} c t) =
     ap (checkFrom place 0) (append-assoc bytes more rest)
     ∙ character-passed place (more ++ rest) c
     ∙ text-passed (place + length bytes) rest t
@@ -40,12 +40,12 @@ Says bytes place (badAt p) = (text : List ℕ) × (rest : List ℕ) × (bytes �
 
 -- what an answer says after a character it says before it
 before-character : (bytes : List ℕ) (place n : ℕ) → suc n ≤ length bytes → Character (take (suc n) bytes) → (v : Verdict) → Says (drop (suc n) bytes) (place + suc n) v → Says bytes place v
-before-character bytes place n h c good t = subst Text (take-append-drop (suc n) bytes) (then c t)
+before-character bytes place n h c good t = subst Text (take-append-drop (suc n) bytes) (followed c t)
 before-character bytes place n h c (badAt p) (text, rest, split, t, at, more, none) = (
   take (suc n) bytes ++ text,
   rest,
   sym (take-append-drop (suc n) bytes) ∙ ap (λ (l : List ℕ). take (suc n) bytes ++ l) split ∙ sym (append-assoc (take (suc n) bytes) text rest),
-  then c t,
+  followed c t,
   omega (arith, length-append (take (suc n) bytes) text, length-take-le (suc n) bytes h),
   more,
   none,
@@ -53,7 +53,7 @@ before-character bytes place n h c (badAt p) (text, rest, split, t, at, more, no
 
 -- and it does say so
 pub says : (bytes : List ℕ) (place pending : ℕ) → pending ≤ length bytes → Says (drop pending bytes) (place + pending) (checkFrom place pending bytes)
-unfolding checkFrom begun
+unfolding checkFrom afterFirst
 says [] place zero h = empty
 says [] place (suc pending) h = absurd (omega arith)
 says (byte ∷ bytes) place (suc pending) h =
@@ -63,7 +63,7 @@ says (byte ∷ bytes) place zero h = by-length (sequenceLength UTF8-char (byte �
   where
     by-length : (k : ℕ) → sequenceLength UTF8-char (byte ∷ bytes) ≡ k
         → ((n : ℕ) → n ≤ length bytes → Says (drop n bytes) (suc place + n) (checkFrom (suc place) n bytes))
-        → Says (byte ∷ bytes) (place + 0) (begun place (λ n. checkFrom (suc place) n bytes) k)
+        → Says (byte ∷ bytes) (place + 0) (afterFirst place (λ n. checkFrom (suc place) n bytes) k)
     by-length zero e after = ([], byte ∷ bytes, refl, empty, omega arith, omega arith, e)
     by-length (suc n) e after =
         let found = sequence-exactly (byte ∷ bytes) n .0 e in

@@ -8,27 +8,27 @@ use mathlib.Core.Option.{Option, none, some}
 use Prim.Native.Nat.{ℕ, zero, suc, _≤_, _<_}
 use native.Mathlib.Omega.{arith}
 use lib.ListN.{length, getD}
-use Rattle.utf8.specs.Table.{Range, %x, Row, UTF8-char}
+use Rattle.utf8.specs.Table.{Range, %x, CharacterRow, UTF8-char}
 use Rattle.utf8.specs.Check.{within, begins, sequenceLength}
 use Rattle.utf8.specs.Lead.{tailsOf}
 use Rattle.utf8.proofs.Ranges.{in-range, above-range, below-range, outside-range, range-bounds}
 use Rattle.utf8.proofs.Rows.{Ascending, table-ascends}
 
 -- the byte lies in no row's first range
-unfoldable pub Outside : ℕ → List Row → Type 0
+unfoldable pub Outside : ℕ → List CharacterRow → Type 0
 Outside byte [] = Unit {0}
 Outside byte ([] ∷ rows) = Outside byte rows
 Outside byte ((%x low high ∷ row) ∷ rows) = (low ≤ byte → high < byte) × Outside byte rows
 
 -- such a byte chooses no row
-pub none-chosen : (rows : List Row) (byte : ℕ) → Outside byte rows → none ≡ tailsOf rows byte
+pub none-chosen : (rows : List CharacterRow) (byte : ℕ) → Outside byte rows → none ≡ tailsOf rows byte
 unfolding Outside tailsOf
 none-chosen [] byte o = refl
 none-chosen ([] ∷ rows) byte o = none-chosen rows byte o
 none-chosen ((%x low high ∷ row) ∷ rows) byte o = rw (outside-range low high byte (o .0)) (none-chosen rows byte (o .1))
 
 -- a row of an ascending table has its first range from where the table begins
-range-from : (rows : List Row) (least : ℕ) → Ascending least rows → {low high : ℕ} {row : Row} → OneOf (%x low high ∷ row) rows → least ≤ low
+range-from : (rows : List CharacterRow) (least : ℕ) → Ascending least rows → {low high : ℕ} {row : CharacterRow} → OneOf (%x low high ∷ row) rows → least ≤ low
 unfolding Ascending
 range-from [] least a m = absurd (not-nil m)
 range-from ([] ∷ rows) least a m = absurd a
@@ -39,7 +39,7 @@ range-from ((%x low′ high′ ∷ row′) ∷ rows) least a {low} {high} {row} 
     (first-or-later m)
 
 -- a byte in the first range of a row chooses that row
-pub row-chosen : (rows : List Row) (least : ℕ) → Ascending least rows → {low high : ℕ} {row : Row} → OneOf (%x low high ∷ row) rows
+pub row-chosen : (rows : List CharacterRow) (least : ℕ) → Ascending least rows → {low high : ℕ} {row : CharacterRow} → OneOf (%x low high ∷ row) rows
     → (byte : ℕ) → low ≤ byte → byte ≤ high → tailsOf rows byte ≡ some row
 unfolding Ascending tailsOf
 row-chosen [] least a m byte l h = absurd (not-nil m)
@@ -50,29 +50,29 @@ row-chosen ((%x low′ high′ ∷ row′) ∷ rows) least a {low} {high} {row} 
     (λ m′. let from : suc high′ ≤ low = range-from rows (suc high′) (a .2) m′ in rw (above-range low′ high′ byte (omega arith)) (row-chosen rows (suc high′) (a .2) m′ byte l h))
     (first-or-later m)
 
-numbered : (rows : List Row) (k : ℕ) {range : Range} {row : Row} → getD rows k [] ≡ range ∷ row → OneOf (range ∷ row) rows
+numbered : (rows : List CharacterRow) (k : ℕ) {range : Range} {row : CharacterRow} → getD rows k [] ≡ range ∷ row → OneOf (range ∷ row) rows
 numbered [] k e = absurd (let z : _≡_ {A = ℕ} 0 1 = cc in omega arith)
 numbered (one ∷ rows) zero e = first (sym e)
 numbered (one ∷ rows) (suc k) e = later (numbered rows k e)
 
 -- a byte in the first range of the table's row k chooses that row
-pub chosen : (k byte : ℕ) {low high : ℕ} {row : Row} → getD UTF8-char k [] ≡ %x low high ∷ row → low ≤ byte → byte ≤ high → some row ≡ tailsOf UTF8-char byte
+pub chosen : (k byte : ℕ) {low high : ℕ} {row : CharacterRow} → getD UTF8-char k [] ≡ %x low high ∷ row → low ≤ byte → byte ≤ high → some row ≡ tailsOf UTF8-char byte
 chosen k byte e l h = sym (row-chosen UTF8-char 0 table-ascends (numbered UTF8-char k e) byte l h)
 
 -- what a choice of row says of the bytes after the first: the sequence's length, or 0
-unfoldable pub sized : Option Row → List ℕ → ℕ
+unfoldable pub sized : Option CharacterRow → List ℕ → ℕ
 sized none bytes = 0
 sized (some row) bytes = cond (begins row bytes) (suc (length row)) 0
 
 -- bytes that begin below an ascending table begin with none of its rows
-sequence-below : (rows : List Row) (least byte : ℕ) (bytes : List ℕ) → Ascending least rows → byte < least → sequenceLength rows (byte ∷ bytes) ≡ 0
+sequence-below : (rows : List CharacterRow) (least byte : ℕ) (bytes : List ℕ) → Ascending least rows → byte < least → sequenceLength rows (byte ∷ bytes) ≡ 0
 unfolding Ascending sequenceLength begins
 sequence-below [] least byte bytes a h = refl
 sequence-below ([] ∷ rows) least byte bytes a h = absurd a
 sequence-below ((%x low high ∷ row) ∷ rows) least byte bytes a h =
     rw (below-range low high byte (omega arith)) (sequence-below rows (suc high) byte bytes (a .2) (omega arith))
 
-sequence-by-row : (rows : List Row) (least byte : ℕ) (bytes : List ℕ) → Ascending least rows → sequenceLength rows (byte ∷ bytes) ≡ sized (tailsOf rows byte) bytes
+sequence-by-row : (rows : List CharacterRow) (least byte : ℕ) (bytes : List ℕ) → Ascending least rows → sequenceLength rows (byte ∷ bytes) ≡ sized (tailsOf rows byte) bytes
 unfolding Ascending sequenceLength begins tailsOf sized
 sequence-by-row [] least byte bytes a = refl
 sequence-by-row ([] ∷ rows) least byte bytes a = absurd a

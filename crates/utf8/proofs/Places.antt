@@ -8,7 +8,7 @@ use native.Mathlib.Nat.{add-zero}
 use lib.ListN.{length, drop, length-drop, drop-of-length-le}
 use lib.Seq.{drop-drop}
 use Rattle.utf8.specs.Table.{UTF8-char}
-use Rattle.utf8.specs.Check.{Verdict, good, badAt, sequenceLength, begun, checkFrom}
+use Rattle.utf8.specs.Check.{Verdict, good, badAt, sequenceLength, afterFirst, checkFrom}
 use Rattle.utf8.proofs.Rows.{found-row}
 
 -- bytes that are still to pass are passed
@@ -24,18 +24,18 @@ passed (byte ∷ bytes) place (suc pending) =
 -- the check goes on after a sequence that begins here
 pub sequence-passed : (bytes : List ℕ) (place n : ℕ) → sequenceLength UTF8-char bytes ≡ suc n
     → checkFrom place 0 bytes ≡ checkFrom (place + suc n) 0 (drop (suc n) bytes)
-unfolding checkFrom begun
+unfolding checkFrom afterFirst
 sequence-passed [] place n e = absurd (let h = found-row UTF8-char [] n e in omega (arith, h .0))
 sequence-passed (byte ∷ bytes) place n e =
-    ap (begun place (λ pending. checkFrom (suc place) pending bytes)) e
+    ap (afterFirst place (λ pending. checkFrom (suc place) pending bytes)) e
     ∙ passed bytes (suc place) n
     ∙ ap (λ (p : ℕ). checkFrom p 0 (drop n bytes)) (let q : suc place + n ≡ place + suc n = omega arith in q)
 
 -- the check ends at a byte where none begins
 pub stopped : (bytes : List ℕ) (place : ℕ) → 0 < length bytes → sequenceLength UTF8-char bytes ≡ 0 → checkFrom place 0 bytes ≡ badAt place
-unfolding checkFrom begun
+unfolding checkFrom afterFirst
 stopped [] place h e = absurd (omega arith)
-stopped (byte ∷ bytes) place h e = ap (begun place (λ pending. checkFrom (suc place) pending bytes)) e
+stopped (byte ∷ bytes) place h e = ap (afterFirst place (λ pending. checkFrom (suc place) pending bytes)) e
 
 -- the answer from a place of the text on
 unfoldable pub checkAt : List ℕ → ℕ → Verdict

@@ -1,7 +1,7 @@
 // RFC 3629: whether bytes are UTF-8, or the first place where no well-formed sequence begins.
 ghost use mathlib.Core.Path.{_≡_};
 ghost use Rattle.utf8.specs.Check.{checkOf};
-ghost use Rattle.utf8.specs.Answer.{paperCheck};
+ghost use Rattle.utf8.specs.Answer.{textOutcome, paperCheck};
 
 mod lead;
 mod plain;
@@ -15,9 +15,9 @@ pub enum Checked {
     BadAt(usize),
 }
 
-// Whether the text is UTF-8, or the first place where no well-formed sequence begins.
+// Whether the text is UTF-8, or the first place where no well-formed sequence begins (10).
 pub fn check(text: &[u8]) -> Checked
-    ensures { λ r. ⌜ paperCheck r ≡ checkOf (now (text .entry)) ⌝ }
+    ensures { λ r. ⌜ paperCheck r ≡ textOutcome (checkOf (now (text .entry))) ⌝ }
 {
     let mut place = 0;
     'sequences: while place < text.len() {

@@ -31,6 +31,7 @@ use Rattle.tags.specs.Item.{booleanByte}
 use Rattle.tags.proofs.Range.{InRange}
 use Rattle.tags.proofs.Back.{header-is-tag}
 use Rattle.utf8.specs.Check.{Verdict, good, badAt, checkOf}
+use Rattle.utf8.specs.Answer.{textOutcome}
 use Rattle.utf8.proofs.Exactly.{good-exactly}
 use Rattle.values.specs.Value.{Value, boolean, real, double, onDate, atTime, objectId, characterString, octetString, enumerated, bitString, unsignedInt, signedInt, date}
 use Rattle.values.specs.Reading.{valueFrom}
@@ -133,7 +134,7 @@ text-good : (lent : List ℕ) → textWritable lent ≡ can → checkOf lent ≡
 unfolding textWritable
 text-good lent e = go (checkOf lent) e
   where
-    go : (v : Verdict) → textWritableBy v ≡ can → v ≡ good
+    go : (v : Verdict) → textWritableBy (textOutcome v) ≡ can → v ≡ good
     go good h = refl
     go (badAt p) h = let z : _≡_ {A = ℕ} 0 1 = cc in absurd (omega arith)
 

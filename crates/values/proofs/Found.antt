@@ -20,6 +20,7 @@ use Rattle.numbers.specs.Integer.{unsignedValue}
 use Rattle.numbers.specs.Reading.{Part, partAt, bytesIn, byteFrom, sliceFrom, fixedFrom, unsignedFrom, signedFrom}
 use Rattle.numbers.proofs.Found.{ByteFound, byte-found, SliceFound, slice-found, fixed-found, unsigned-found, signed-found}
 use Rattle.utf8.specs.Check.{Verdict, good, badAt, checkOf}
+use Rattle.utf8.specs.Answer.{textOutcome}
 use Rattle.utf8.proofs.Exactly.{good-exactly}
 use Rattle.values.specs.Value.{Value, real, double, objectId, characterString, octetString, enumerated, bitString, unsignedInt, signedInt}
 use Rattle.values.specs.Reading.{booleanUnder, unsignedUnder, signedUnder, realUnder, octetsUnder, textRead, textIn, textUnder, bitsUnder, enumeratedUnder, dateUnder, timeUnder, objectIdUnder, ofKind, underTag}
@@ -141,7 +142,7 @@ module _ (xs : List ℕ) (place : ℕ) where
       (λ h. tt))
       (λ n c g. tt))
     where
-      go : (len after : ℕ) → 1 ≤ len → ByteFound xs place 0 after → (part : Part) (next : ℕ) (s : SliceFound (len - 1) xs after part next) (v : Verdict) → checkOf (s .bytes) ≡ v → Or (tag (application 7) len) xs place (textRead v part next)
+      go : (len after : ℕ) → 1 ≤ len → ByteFound xs place 0 after → (part : Part) (next : ℕ) (s : SliceFound (len - 1) xs after part next) (v : Verdict) → checkOf (s .bytes) ≡ v → Or (tag (application 7) len) xs place (textRead (textOutcome v) part next)
       go len after l f part next s good e = first-and-part 7 len 0 after l f part next s characterString (ofText (s .bytes) (good-exactly (s .bytes) .0 e))
       go len after l f part next s (badAt q) e = tt
 

@@ -8,10 +8,11 @@ use lib.Ieee.{binary32, binary64, ofBits}
 use Rattle.types.specs.Choice.{if}
 use Rattle.types.specs.Tag.{Number, application, context, opening, closing, Tag}
 use Rattle.types.specs.Refusal.{amount, tagFound}
-use Rattle.types.specs.Answer.{Answer, accepted, refused, refusal, then}
+use Rattle.types.specs.Answer.{Answer, accepted, refused, refusal, then, Outcome, passed, stopped}
 use Rattle.numbers.specs.Reading.{Part, bytesIn, byteFrom, sliceFrom, fixedFrom, unsignedFrom, signedFrom}
 use Rattle.tags.specs.Reading.{tagFrom}
-use Rattle.utf8.specs.Check.{Verdict, good, badAt, checkOf}
+use Rattle.utf8.specs.Check.{checkOf}
+use Rattle.utf8.specs.Answer.{textOutcome}
 use Rattle.values.specs.Value.{Value, boolean, real, double, onDate, atTime, objectId, characterString, octetString, enumerated, bitString, unsignedInt, signedInt, date, time, valueOf}
 use Rattle.values.specs.declared.reading.ValueRead.{ValueRead}
 use Rattle.values.specs.declared.reading.ValueRead.the-variants as r
@@ -40,12 +41,12 @@ unfoldable pub octetsUnder : ℕ → List ℕ → ℕ → Answer Value
 octetsUnder len xs place = then (sliceFrom len xs place) (λ part next. accepted (octetString part) next)
 
 -- Character String (20.2.9): the set byte, which is to be 0 (UTF-8), and then the text
-abbrev pub textRead : Verdict → Part → ℕ → Answer Value
-textRead good part next = accepted (characterString part) next
-textRead (badAt place) part next = refused 10 (amount place)
+abbrev pub textRead : Outcome → Part → ℕ → Answer Value
+textRead passed part next = accepted (characterString part) next
+textRead (stopped n c) part next = refused n c
 
 unfoldable pub textIn : List ℕ → Part → ℕ → Answer Value
-textIn xs part next = textRead (checkOf (bytesIn xs part)) part next
+textIn xs part next = textRead (textOutcome (checkOf (bytesIn xs part))) part next
 
 unfoldable pub textUnder : ℕ → List ℕ → ℕ → Answer Value
 textUnder len xs place =

@@ -7,13 +7,13 @@ use lib.ListN.{length}
 use lib.Ieee.{binary32, binary64, toBits}
 use Rattle.types.specs.Choice.{if}
 use Rattle.types.specs.Tag.{application, tag}
-use Rattle.types.specs.Refusal.{amount}
 use Rattle.types.specs.Answer.{Outcome, passed, stopped}
 use Rattle.types.specs.Writing.{Left, Writable, can, cannot, unwritable, writing}
 use Rattle.numbers.specs.Integer.{lowBytes, unsignedBytes, signedBytes}
 use Rattle.tags.specs.Writing.{tagBytes}
 use Rattle.tags.specs.Item.{itemBytes, booleanByte}
-use Rattle.utf8.specs.Check.{Verdict, good, badAt, checkOf}
+use Rattle.utf8.specs.Check.{checkOf}
+use Rattle.utf8.specs.Answer.{textOutcome}
 use Rattle.values.specs.Value.{Value, boolean, real, double, onDate, atTime, objectId, characterString, octetString, enumerated, bitString, unsignedInt, signedInt, Date, Time}
 
 -- a date: the year less 1900, month, day, weekday
@@ -54,13 +54,13 @@ objectIdWritable n i = if (ltb 1023 n) unwritable (if (ltb 4194303 i) unwritable
 unfoldable pub bitsWritable : ℕ → List ℕ → Writable
 bitsWritable unused lent = if (ltb 7 unused) unwritable (if (eqb unused 0) can (if (eqb (length lent) 0) unwritable can))
 
--- text that is UTF-8, else 10 with the first bad place
-abbrev pub textWritableBy : Verdict → Writable
-textWritableBy good = can
-textWritableBy (badAt place) = cannot 10 (amount place)
+-- text that the check passes; else by its number, and with what that carries
+abbrev pub textWritableBy : Outcome → Writable
+textWritableBy passed = can
+textWritableBy (stopped n c) = cannot n c
 
 unfoldable pub textWritable : List ℕ → Writable
-textWritable lent = textWritableBy (checkOf lent)
+textWritable lent = textWritableBy (textOutcome (checkOf lent))
 
 -- whether a value can be written at all
 abbrev pub writableBy : Value → List ℕ → Writable

@@ -1,7 +1,7 @@
 -- `check` meets its contract: before `place` there are whole sequences alone, so the answer on the text is the answer from `place` on;
 -- the inner loop has passed some of the bytes that are to follow, and leaves by label where one is wrong. Assumes nothing.
 use borrow.Author.Needs.{needs}
-use mathlib.Core.Path.{_≡_, refl, sym, _∙_}
+use mathlib.Core.Path.{_≡_, refl, sym, ap, _∙_}
 use mathlib.Core.Logic.{⊎-elim}
 use mathlib.Core.Bool.{true}
 use Prim.Native.Nat.{suc, _+_, _-_, _≤_, _<_}
@@ -10,7 +10,7 @@ use lib.ListN.{length, drop, getD}
 use Rattle.utf8.specs.declared.lead.Lead.the-variants.{Follow}
 use Rattle.utf8.specs.Table.{UTF8-char}
 use Rattle.utf8.specs.Check.{begins, sequenceLength, checkOf}
-use Rattle.utf8.specs.Answer.{paperCheck}
+use Rattle.utf8.specs.Answer.{textOutcome, paperCheck}
 use Rattle.utf8.specs.Lead.{tailsOf, ranges, asTails}
 use Rattle.utf8.proofs.Places.{checkAt, end-good, none-bad, sequence-leads}
 use Rattle.utf8.proofs.Following.{stray-begins-none, wrong-begins-none, right-begins, nothing-left, ended-wrong, byte-passed, low-wrong, high-wrong}
@@ -135,14 +135,14 @@ unfolding paperCheck
 returns c =
     let text = c .before .before .before .before .args .text .now in
     let place = c .before .before .sequences .place in
-    sym (c .before .before .sequences .inv .1 ∙ none-bad text place (c .if5 .taken) (none-begins (c .before) (c .if5 .taken)))
+    ap textOutcome (sym (c .before .before .sequences .inv .1 ∙ none-bad text place (c .if5 .taken) (none-begins (c .before) (c .if5 .taken))))
 
 returns-2 : tie.Need-returns-2 Inv-loop μ-loop Inv-sequences μ-sequences
 unfolding paperCheck
 returns-2 c =
     let text = c .before .before .before .before .args .text .now in
     let place = c .before .before .sequences .place in
-    sym (c .before .before .sequences .inv .1 ∙ end-good text place (c .if5 .left))
+    ap textOutcome (sym (c .before .before .sequences .inv .1 ∙ end-good text place (c .if5 .left)))
 
 pub check-spec : {M : Type 1} → statement M
 check-spec =

@@ -4,7 +4,7 @@ use borrow.Author.Needs.{needs}
 use mathlib.Core.Path.{sym, ap, _∙_}
 use Rattle.types.specs.Tag.{Number, tag}
 use Rattle.tags.specs.Writing.{tagTo}
-use Rattle.thaolisem.specs.Named.{paperNumber, tagNamedTo}
+use Rattle.thaolisem.specs.Named.{paperNumberNamed, tagNamedTo}
 use Rattle.thaolisem.proofs.Written.{named-wrote, nothing-wrote}
 use Rattle.thaolisem.proofs.tag.thaolisem_encode_tag.Statement.{statement}
 use Rattle.thaolisem.proofs.tag.thaolisem_encode_tag.Tie as tie
@@ -37,7 +37,7 @@ returns : tie.Need-returns
 unfolding tagNamedTo
 returns c =
     let a = c .before .before .before .before .before .before .before .before .before .before .args in
-    named-wrote 0 (λ (x : Number). tagTo (tag x (a .value))) (sym (c .before .before .before .before .before .before .before .before .number-named .ensures) ∙ ap paperNumber (c .before .before .before .before .before .before .found .given .1)) (c .before .before .before .encode .ensures) (c .written .ensures)
+    named-wrote 0 (λ (x : Number). tagTo (tag x (a .value))) (sym (c .before .before .before .before .before .before .before .before .number-named .ensures) ∙ ap paperNumberNamed (c .before .before .before .before .before .before .found .given .1)) (c .before .before .before .encode .ensures) (c .written .ensures)
 
 same-length-2 : tie.Need-same-length-2
 same-length-2 c = search needs
@@ -46,7 +46,7 @@ returns-2 : tie.Need-returns-2
 unfolding tagNamedTo
 returns-2 c =
     let a = c .before .before .before .before .before .before .before .args in
-    nothing-wrote 0 (λ (x : Number). tagTo (tag x (a .value))) (a .place) (sym (c .before .before .before .before .before .number-named .ensures) ∙ ap paperNumber (c .before .before .before .enum-told .given .1)) (c .before .nothing-named .ensures) (c .written2 .ensures)
+    nothing-wrote 0 (λ (x : Number). tagTo (tag x (a .value))) (a .place) (sym (c .before .before .before .before .before .number-named .ensures) ∙ ap paperNumberNamed (c .before .before .before .enum-told .given .1)) (c .before .nothing-named .ensures) (c .written2 .ensures)
 
 pub thaolisem-encode-tag-spec : {M : Type 1} → statement M
 thaolisem-encode-tag-spec =

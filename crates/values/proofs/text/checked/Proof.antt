@@ -6,16 +6,16 @@ use mathlib.Core.Path.{_≡_, sym, ap, _∙_}
 use Prim.Native.Nat.{ℕ, _-_}
 use lib.ListN.{take, drop}
 use Rattle.utf8.specs.Check.{checkOf}
-use Rattle.utf8.specs.Answer.{paperCheck}
+use Rattle.utf8.specs.Answer.{textOutcome, paperCheck}
 use Rattle.values.specs.Reading.{textIn}
 use Rattle.values.proofs.text.checked.Statement.{statement}
 use Rattle.values.proofs.text.checked.Tie as tie
 
-whole : (c : tie.After-check) → (let a = c .before .before .before .args in checkOf (take (a .size) (drop (a .start) (a .buf .now))) ≡ paperCheck (c .check .result))
+whole : (c : tie.After-check) → (let a = c .before .before .before .args in textOutcome (checkOf (take (a .size) (drop (a .start) (a .buf .now)))) ≡ paperCheck (c .check .result))
 whole c =
     let a = c .before .before .before .args in
     let e : a .next - a .start ≡ a .size = omega arith in
-    ap (λ (n : ℕ). checkOf (take n (drop (a .start) (a .buf .now)))) (sym e) ∙ sym (c .check .ensures)
+    ap (λ (n : ℕ). textOutcome (checkOf (take n (drop (a .start) (a .buf .now))))) (sym e) ∙ sym (c .check .ensures)
 
 sub-check : tie.Need-sub-check
 sub-check c = search needs
