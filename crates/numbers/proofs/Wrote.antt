@@ -51,10 +51,10 @@ write-fits lent bytes xs place l small room =
     simp (le-ltb 65535 (length xs) small, le-ltb 65535 lent l, le-ltb (length xs) place (omega arith), le-ltb (length xs) (place + length bytes) room)
 
 -- where a write of so many bytes is accepted, the buffer with these in place is what it leaves
-pub stored : (lent : ℕ) (w : Writable) (count : ℕ) (bytes xs : List ℕ) (place next : ℕ) (ys : List ℕ) → writeAnswer lent w count xs place ≡ accepted tt next → length bytes ≡ count → ys ≡ over xs place bytes
+pub accepted-stored : (lent : ℕ) (w : Writable) (count : ℕ) (bytes xs : List ℕ) (place next : ℕ) (ys : List ℕ) → writeAnswer lent w count xs place ≡ accepted tt next → length bytes ≡ count → ys ≡ over xs place bytes
     → left (accepted tt next) ys ≡ writing lent w bytes xs place
 unfolding writing
-stored lent w count bytes xs place next ys e l b =
+accepted-stored lent w count bytes xs place next ys e l b =
     let r : Room count xs place (accepted tt next) = rw e at (write-room lent w count xs place) in
     let p : next ≡ place + length bytes = omega (arith, r .0) in
     (λ i. left (accepted tt (p i)) (b i)) ∙ ap (settled bytes xs place) (sym (ap (λ (k : ℕ). writeAnswer lent w k xs place) l ∙ e))

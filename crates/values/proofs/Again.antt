@@ -9,12 +9,13 @@ use mathlib.Core.List.{List, [], _∷_, _++_}
 use lib.Dec.{ltb, eqb, lit<}
 use lib.ListN.{length, take, drop, length-take, length-drop}
 use lib.Ieee.{binary32, binary64, toBits, ofBits}
-use borrow.Author.Tests.{ltb-true, eqb-true, eqb-false, lt-ltb, le-ltb, eq-eqb, ne-eqb}
+use borrow.Author.Tests.{lt-ltb, le-ltb, eq-eqb, ne-eqb}
 use Rattle.types.specs.Tag.{application, Tag, tag}
 use Rattle.types.specs.Refusal.{amount}
 use Rattle.types.specs.Answer.{accepted, refused}
 use Rattle.types.specs.Writing.{Left, left, Writable, can, unwritable, over, writeAnswer, writing}
 use Rattle.types.proofs.Choices.{either}
+use Rattle.types.proofs.Accepted.{could-be-written}
 use Rattle.numbers.specs.Integer.{lowBytes, unsignedValue, signedValue, unsignedBytes, signedBytes, Bytes}
 use Rattle.numbers.specs.Reading.{Part, partAt, bytesIn}
 use Rattle.numbers.proofs.Value.{bytes-dropped, value-lt}
@@ -25,14 +26,13 @@ use Rattle.tags.specs.Writing.{tagBytes}
 use Rattle.tags.specs.Item.{booleanByte}
 use Rattle.tags.proofs.OneTag.{same-front, one-tag}
 use Rattle.tags.proofs.Back.{header-is-tag}
-use Rattle.utf8.specs.Text.{Text}
-use Rattle.utf8.proofs.Exactly.{good-exactly}
 use Rattle.values.specs.Value.{Value, boolean, real, double, onDate, atTime, objectId, characterString, octetString, enumerated, bitString, unsignedInt, signedInt}
 use Rattle.values.specs.Reading.{valueFrom}
-use Rattle.values.specs.Writing.{valueBytes, dateWritable, objectIdWritable, bitsWritable, textWritableBy, textWritable, writableValue, valueTo}
+use Rattle.values.specs.Writing.{valueBytes, dateWritable, objectIdWritable, bitsWritable, textWritable, writableValue, valueTo}
 use Rattle.values.specs.Content.{Content, ofBoolean, ofUnsigned, ofSigned, ofReal, ofDouble, ofOctetString, ofText, ofBitString, ofEnumerated, ofDate, ofTime, ofObjectId}
 use Rattle.values.proofs.Exactly.{ValueAt, read-exactly}
-use Rattle.values.proofs.Back.{tagUnder, contentUnder, bytes-are, tag-in-range, accepted-could, part-bytes, part-bytes-behind}
+use Rattle.values.proofs.Fits.{bits-exactly, text-exactly}
+use Rattle.values.proofs.Back.{tagUnder, contentUnder, bytes-are, tag-in-range, part-bytes, part-bytes-behind}
 
 -- the bytes to lend where a value that was read is written again: those of its part
 abbrev pub lentOf : Value → List ℕ → List ℕ
@@ -79,15 +79,14 @@ barred-cannot xs (of-nothing {unused} {p} h s) =
 
 -- and no others
 bits-can : (unused place : ℕ) (bytes : List ℕ) → (Barred (bitString unused (partAt place (length bytes))) → ⊥) → bitsWritable unused bytes ≡ can
-unfolding bitsWritable
 bits-can unused place bytes n =
-    either (λ (w : Writable). w ≡ can) (ltb 7 unused) (λ e. absurd (n (too-many (ltb-true 7 unused e)))) (λ e.
-    either (λ (w : Writable). w ≡ can) (eqb unused 0) (λ f. refl) (λ f.
-    either (λ (w : Writable). w ≡ can) (eqb (length bytes) 0) (λ g. absurd (n (of-nothing (omega (arith, eqb-false unused 0 f)) (eqb-true (length bytes) 0 g)))) (λ g. refl)))
-
-text-can : (text : List ℕ) → Text text → textWritable text ≡ can
-unfolding textWritable
-text-can text w = ap textWritableBy (good-exactly text .1 w)
+    bits-exactly unused bytes .1 (
+      below 7 unused (λ h. n (too-many h)),
+      λ e. let z = below 0 unused (λ h. n (of-nothing h e)) in omega arith,
+    )
+  where
+    below : (most m : ℕ) → (most < m → ⊥) → m ≤ most
+    below most m h = omega arith
 
 truth : (v : ℕ) → v ≤ 1 → booleanByte (ltb 0 v) ≡ v
 truth zero h = refl
@@ -146,7 +145,7 @@ module _ (xs : List ℕ) where
   can-again (ofReal bytes h) b rest e n = refl
   can-again (ofDouble bytes h) b rest e n = refl
   can-again (ofOctetString bytes) b rest e n = refl
-  can-again (ofText {place} text w) b rest e n = ap textWritable (part-bytes-behind xs place 0 text rest e) ∙ text-can text w
+  can-again (ofText {place} text w) b rest e n = ap textWritable (part-bytes-behind xs place 0 text rest e) ∙ text-exactly text .1 w
   can-again (ofBitString {place} {unused} bytes) b rest e n = ap (bitsWritable unused) (part-bytes-behind xs place unused bytes rest e) ∙ bits-can unused (place + 1) bytes n
   can-again (ofEnumerated bytes s m h) b rest e n = refl
   can-again (ofDate {y = y}) b rest e n = simp (le-ltb (y + 1900) 1900 (omega arith), le-ltb 2155 (y + 1900) (omega (arith, b 0)))
@@ -224,13 +223,13 @@ module _ (xs : List ℕ) (place : ℕ) (v : Value) (next : ℕ) (f : ValueAt xs 
         let own : List ℕ = f .header ++ f .content in
         let bytes : List ℕ = valueBytes v (lentOf v xs) in
         let w = wrote (length (lentOf v xs)) (writableValue v (lentOf v xs)) bytes ys at (at + length own) (over ys at own) e in
-        let c = accepted-could (length (lentOf v xs)) (writableValue v (lentOf v xs)) bytes ys at (at + length own) (over ys at own) e in
+        let c = could-be-written (length (lentOf v xs)) (writableValue v (lentOf v xs)) bytes ys at (at + length own) (over ys at own) e in
         let n : length bytes ≡ length own = omega (arith, w .ends) in
         let d : own ++ drop (at + length own) ys ≡ bytes ++ drop (at + length bytes) ys = sym (written-here own ys at room) ∙ ap (drop at) (w .buffer) ∙ written-here bytes ys at (w .room) in
         let s : bytes ≡ own = same-front bytes (drop (at + length bytes) ys) own (drop (at + length own) ys) n (sym d) .0 in
         let k = own-bytes s in
         record {
-          writable = λ h. let z : _≡_ {A = ℕ} 0 1 = cc (barred-cannot xs h, c .0) in omega arith;
+          writable = λ h. let z : _≡_ {A = ℕ} 0 1 = cc (barred-cannot xs h, c .writable) in omega arith;
           shortest = k .0;
           kept = k .1;
         }

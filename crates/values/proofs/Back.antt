@@ -5,20 +5,17 @@ use mathlib.Core.Bool.{true, false}
 use Prim.Native.Nat.{ℕ, suc, _+_, _-_, _*_, _/_, _%_, _^_, _<_, _≤_}
 use native.Mathlib.Omega.{arith}
 use mathlib.Core.List.{List, [], _∷_, _++_, append-assoc, append-nil}
-use lib.Dec.{T, ltb}
+use lib.Dec.{T}
 use lib.ListN.{length, take, drop, length-append}
 use lib.Seq.{take-append-seam}
 use lib.IntN.{ℤ}
 use lib.Signed.{mag}
 use lib.Ieee.{Float, binary32, binary64, fits, toBits, ofBits}
 use lib.Ieee.Bits.{ofBits-toBits, toBits-lt}
-use borrow.Author.Tests.{ltb-false}
 use Rattle.types.specs.Tag.{application, Tag, tag}
-use Rattle.types.specs.Choice.{if}
-use Rattle.types.specs.Refusal.{amount}
-use Rattle.types.specs.Answer.{Answer, accepted, refused}
-use Rattle.types.specs.Writing.{Left, left, Writable, can, cannot, unless, settled, writeAnswer, writing}
-use Rattle.types.proofs.Choices.{either}
+use Rattle.types.specs.Answer.{accepted}
+use Rattle.types.specs.Writing.{left, can}
+use Rattle.types.proofs.Accepted.{could-be-written}
 use Rattle.numbers.specs.Integer.{lowBytes, unsignedValue, unsignedBytes, signedBytes}
 use Rattle.numbers.specs.Reading.{partAt, bytesIn}
 use Rattle.numbers.proofs.Found.{behind}
@@ -30,15 +27,12 @@ use Rattle.tags.specs.Writing.{tagBytes}
 use Rattle.tags.specs.Item.{booleanByte}
 use Rattle.tags.proofs.Range.{InRange}
 use Rattle.tags.proofs.Back.{header-is-tag}
-use Rattle.utf8.specs.Check.{Verdict, good, badAt, checkOf}
-use Rattle.utf8.specs.Answer.{textOutcome}
-use Rattle.utf8.proofs.Exactly.{good-exactly}
 use Rattle.values.specs.Value.{Value, boolean, real, double, onDate, atTime, objectId, characterString, octetString, enumerated, bitString, unsignedInt, signedInt, date}
 use Rattle.values.specs.Reading.{valueFrom}
-use Rattle.values.specs.Writing.{dateBytes, timeBytes, valueBytes, textWritableBy, textWritable, writableValue, valueTo}
+use Rattle.values.specs.Writing.{dateBytes, timeBytes, valueBytes, writableValue, valueTo}
 use Rattle.values.specs.Content.{Content, ofBoolean, ofUnsigned, ofSigned, ofReal, ofDouble, ofOctetString, ofText, ofBitString, ofEnumerated, ofDate, ofTime, ofObjectId}
 use Rattle.values.proofs.Exactly.{read-exactly}
-use Rattle.values.proofs.Fits.{date-fits, id-fits}
+use Rattle.values.proofs.Fits.{date-exactly, id-exactly, text-exactly}
 
 -- the value as it reads back where its content begins at a place: text, octets and bits are the part that lies there, as long as the lent bytes
 abbrev pub placed : Value → ℕ → List ℕ → Value
@@ -130,14 +124,6 @@ bytes-are (bitString u q) lent = refl
 bytes-are (unsignedInt x) lent = refl
 bytes-are (signedInt x) lent = refl
 
-text-good : (lent : List ℕ) → textWritable lent ≡ can → checkOf lent ≡ good
-unfolding textWritable
-text-good lent e = go (checkOf lent) e
-  where
-    go : (v : Verdict) → textWritableBy (textOutcome v) ≡ can → v ≡ good
-    go good h = refl
-    go (badAt p) h = let z : _≡_ {A = ℕ} 0 1 = cc in absurd (omega arith)
-
 identifier-back : (n i : ℕ) → i ≤ 4194303 → ((n * 4194304 + i) / 4194304 ≡ n) × ((n * 4194304 + i) % 4194304 ≡ i)
 identifier-back n i h = (omega arith, omega arith)
 
@@ -161,18 +147,18 @@ content-is (double x) lent w h p =
     let e : ofBits binary64 (unsignedValue (lowBytes 8 b)) ≡ x = ap (ofBits binary64) (low-bytes-stand 8 b (toBits-lt binary64 x h)) ∙ ofBits-toBits binary64 x h in
     subst (λ (y : Float). Content (tag (application 4) 8) p (lowBytes 8 b) (double y)) e (ofDouble (lowBytes 8 b) refl)
 content-is (octetString q) lent w h p = ofOctetString lent
-content-is (characterString q) lent w h p = ofText lent (good-exactly lent .0 (text-good lent w))
+content-is (characterString q) lent w h p = ofText lent (text-exactly lent .0 w)
 content-is (bitString u q) lent w h p = ofBitString lent
 content-is (enumerated x) lent w h p =
     let s = unsigned-shortest x (omega arith) in
     subst (λ (y : ℕ). Content (tag (application 9) (length (unsignedBytes x))) p (unsignedBytes x) (enumerated y)) (s .holds .stands) (ofEnumerated (unsignedBytes x) (s .holds .some) (s .most) (omega (arith, s .holds .stands)))
 content-is (onDate d) lent w h p =
-    let f = date-fits (d .year) w in
+    let f = date-exactly (d .year) .0 w in
     let e : d .year - 1900 + 1900 ≡ d .year = omega arith in
     subst (λ (y : ℕ). Content (tag (application 10) 4) p (dateBytes d) (onDate (date y (d .month) (d .day) (d .weekday)))) e ofDate
 content-is (atTime t) lent w h p = ofTime
 content-is (objectId n i) lent w h p =
-    let f = id-fits n i w in
+    let f = id-exactly n i .0 w in
     let k : ℕ = n * 4194304 + i in
     let b = identifier-back n i (f .1) in
     let s : unsignedValue (lowBytes 4 k) ≡ k = low-bytes-stand 4 k (omega arith) in
@@ -193,31 +179,6 @@ tag-in-range (enumerated x) lent l = omega (arith, unsigned-length x, length-bet
 tag-in-range (onDate d) lent l = omega arith
 tag-in-range (atTime t) lent l = omega arith
 tag-in-range (objectId n i) lent l = omega arith
-
--- a write that was accepted was of a value that can be written, with lent bytes that are not too many
-abbrev Could : ℕ → Writable → Answer (Unit {0}) → Type 0
-Could lent w (accepted u next) = (w ≡ can) × (lent ≤ 65535)
-Could lent w (refused n c) = Unit {0}
-
-could : (lent : ℕ) (w : Writable) (count : ℕ) (xs : List ℕ) (place : ℕ) → Could lent w (writeAnswer lent w count xs place)
-unfolding writeAnswer
-could lent w count xs place =
-    either (Could lent w) (ltb 65535 (length xs)) (λ e. tt) (λ e.
-    either (Could lent w) (ltb 65535 lent) (λ f. tt) (λ f.
-    either (Could lent w) (ltb (length xs) place) (λ g. tt) (λ g. go w (ltb-false 65535 lent f))))
-  where
-    go : (w : Writable) → lent ≤ 65535 → Could lent w (unless w (if (ltb (length xs) (place + count)) (refused 13 (amount count)) (accepted tt (place + count))))
-    go can l = either (Could lent can) (ltb (length xs) (place + count)) (λ h. tt) (λ h. (refl, l))
-    go (cannot n c) l = tt
-
-settled-could : (lent : ℕ) (w : Writable) (bytes xs : List ℕ) (place : ℕ) (a : Answer (Unit {0})) → Could lent w a → Could lent w (settled bytes xs place a .answer)
-settled-could lent w bytes xs place (accepted u next) h = h
-settled-could lent w bytes xs place (refused n c) h = tt
-
-pub accepted-could : (lent : ℕ) (w : Writable) (bytes xs : List ℕ) (place next : ℕ) (ys : List ℕ) → writing lent w bytes xs place ≡ left (accepted tt next) ys → (w ≡ can) × (lent ≤ 65535)
-unfolding writing
-accepted-could lent w bytes xs place next ys e =
-    subst (λ (l : Left). Could lent w (l .answer)) e (settled-could lent w bytes xs place (writeAnswer lent w (length bytes) xs place) (could lent w (length bytes) xs place))
 
 -- the bytes of a part that stands at a place
 pub part-bytes : (xs : List ℕ) (p : ℕ) (bytes rest : List ℕ) → drop p xs ≡ bytes ++ rest → bytesIn xs (partAt p (length bytes)) ≡ bytes
@@ -254,7 +215,7 @@ round-trip v lent h xs place next ys e =
     let t : Tag = tagUnder v lent in
     let header : List ℕ = tagBytes t in
     let content : List ℕ = contentUnder v lent in
-    let c = accepted-could (length lent) (writableValue v lent) (valueBytes v lent) xs place next ys e in
+    let c = could-be-written (length lent) (writableValue v lent) (valueBytes v lent) xs place next ys e in
     let w = wrote (length lent) (writableValue v lent) (valueBytes v lent) xs place next ys e in
     let b : length (valueBytes v lent) ≡ length header + length content = ap length (bytes-are v lent) ∙ length-append header content in
     let rest : List ℕ = drop (place + length (valueBytes v lent)) xs in
@@ -267,9 +228,9 @@ round-trip v lent h xs place next ys e =
         record {
           found = t;
           header = header;
-          is-tag = header-is-tag (t .number) (t .value) (tag-in-range v lent (c .1));
+          is-tag = header-is-tag (t .number) (t .value) (tag-in-range v lent (c .content));
           content = content;
-          is = content-is v lent (c .0) h (place + length header);
+          is = content-is v lent (c .writable) h (place + length header);
           rest = rest;
           here = d;
           ends = omega (arith, w .ends);

@@ -1,44 +1,84 @@
--- What is known of a value that can be written.
+-- Which values can be written: the computed and the declarative definition agree; and what is known where one can.
 -- Assumes nothing.
-use mathlib.Core.Path.{_≡_, refl, subst}
+use mathlib.Core.Path.{_≡_, refl}
+use mathlib.Core.Logic.{_↔_}
+use mathlib.Core.Bool.{Bool, true, false}
 use Prim.Native.Nat.{ℕ, suc, _≤_}
 use native.Mathlib.Nat.{zero-add}
 use native.Mathlib.Numerals.{one-add}
 use native.Mathlib.Omega.{arith}
 use mathlib.Core.List.{List, [], _∷_}
-use lib.Dec.{ltb}
+use lib.Dec.{ltb, eqb}
 use lib.ListN.{length, set}
-use borrow.Author.Tests.{ltb-false}
-use Rattle.types.proofs.Choices.{either}
-use Rattle.types.specs.Refusal.{Carried}
+use borrow.Author.Tests.{eqb-true, eqb-false}
+use Rattle.types.specs.Choice.{if}
+use Rattle.types.specs.Refusal.{Carried, amount}
 use Rattle.types.specs.Answer.{passed, stopped}
-use Rattle.types.specs.Writing.{Writable, can, cannot, over}
-use Rattle.values.specs.Writing.{dateWritable, objectIdWritable, outcomeOf}
-
--- a fact that holds where a value can be written
-abbrev If : Type 0 → Writable → Type 0
-If A can = A
-If A (cannot n c) = Unit {0}
-
-date-or : (year : ℕ) → If ((1900 ≤ year) × (year ≤ 2155)) (dateWritable year)
-unfolding dateWritable
-date-or year =
-    either (If ((1900 ≤ year) × (year ≤ 2155))) (ltb year 1900) (λ e. tt) (λ e.
-    either (If ((1900 ≤ year) × (year ≤ 2155))) (ltb 2155 year) (λ f. tt) (λ f. (ltb-false year 1900 e, ltb-false 2155 year f)))
+use Rattle.types.specs.Writing.{Writable, can, cannot, unwritable, over}
+use Rattle.types.proofs.Accepted.{limit-exactly}
+use Rattle.utf8.specs.Text.{Text}
+use Rattle.utf8.specs.Check.{Verdict, good, badAt, checkOf}
+use Rattle.utf8.specs.Answer.{textOutcome}
+use Rattle.utf8.proofs.Exactly.{good-exactly}
+use Rattle.values.specs.Value.{Value, boolean, real, double, onDate, atTime, objectId, characterString, octetString, enumerated, bitString, unsignedInt, signedInt}
+use Rattle.values.specs.Writing.{dateWritable, objectIdWritable, bitsWritable, textWritableBy, textWritable, Writes, writableValue, outcomeOf}
 
 -- a year from 1900 to 2155
-pub date-fits : (year : ℕ) → dateWritable year ≡ can → (1900 ≤ year) × (year ≤ 2155)
-date-fits year e = subst (If ((1900 ≤ year) × (year ≤ 2155))) e (date-or year)
-
-id-or : (n i : ℕ) → If ((n ≤ 1023) × (i ≤ 4194303)) (objectIdWritable n i)
-unfolding objectIdWritable
-id-or n i =
-    either (If ((n ≤ 1023) × (i ≤ 4194303))) (ltb 1023 n) (λ e. tt) (λ e.
-    either (If ((n ≤ 1023) × (i ≤ 4194303))) (ltb 4194303 i) (λ f. tt) (λ f. (ltb-false 1023 n e, ltb-false 4194303 i f)))
+pub date-exactly : (year : ℕ) → (dateWritable year ≡ can) ↔ ((1900 ≤ year) × (year ≤ 2155))
+unfolding dateWritable
+date-exactly year =
+    let f = limit-exactly year 1900 12 (amount 0) (if (ltb 2155 year) unwritable can) in
+    let g = limit-exactly 2155 year 12 (amount 0) can in
+    (λ e. let p = f .0 e in (p .0, g .0 (p .1) .0), λ h. f .1 (h .0, g .1 (h .1, refl)))
 
 -- a type of ten bits and an instance of 22
-pub id-fits : (n i : ℕ) → objectIdWritable n i ≡ can → (n ≤ 1023) × (i ≤ 4194303)
-id-fits n i e = subst (If ((n ≤ 1023) × (i ≤ 4194303))) e (id-or n i)
+pub id-exactly : (n i : ℕ) → (objectIdWritable n i ≡ can) ↔ ((n ≤ 1023) × (i ≤ 4194303))
+unfolding objectIdWritable
+id-exactly n i =
+    let f = limit-exactly 1023 n 12 (amount 0) (if (ltb 4194303 i) unwritable can) in
+    let g = limit-exactly 4194303 i 12 (amount 0) can in
+    (λ e. let p = f .0 e in (p .0, g .0 (p .1) .0), λ h. f .1 (h .0, g .1 (h .1, refl)))
+
+-- at most seven unused bits, and none where there are no bytes
+pub bits-exactly : (unused : ℕ) (lent : List ℕ) → (bitsWritable unused lent ≡ can) ↔ ((unused ≤ 7) × (length lent ≡ 0 → unused ≡ 0))
+unfolding bitsWritable
+bits-exactly unused lent =
+    let f = limit-exactly 7 unused 12 (amount 0) (if (eqb unused 0) can (if (eqb (length lent) 0) unwritable can)) in
+    let g = go (eqb unused 0) refl (eqb (length lent) 0) refl in
+    (λ e. let p = f .0 e in (p .0, g .0 (p .1)), λ h. f .1 (h .0, g .1 (h .1)))
+  where
+    go : (a : Bool) → eqb unused 0 ≡ a → (b : Bool) → eqb (length lent) 0 ≡ b → (if a can (if b unwritable can) ≡ can) ↔ (length lent ≡ 0 → unused ≡ 0)
+    go true e b g = (λ h n. eqb-true unused 0 e, λ h. refl)
+    go false e true g = (λ h. let z : _≡_ {A = ℕ} 0 1 = cc in absurd (omega arith), λ h. absurd (eqb-false unused 0 e (h (eqb-true (length lent) 0 g))))
+    go false e false g = (λ h n. absurd (eqb-false (length lent) 0 g n), λ h. refl)
+
+-- text that is UTF-8
+pub text-exactly : (lent : List ℕ) → (textWritable lent ≡ can) ↔ Text lent
+unfolding textWritable
+text-exactly lent =
+    let f = go (checkOf lent) in
+    let g = good-exactly lent in
+    (λ e. g .0 (f .0 e), λ t. f .1 (g .1 t))
+  where
+    go : (v : Verdict) → (textWritableBy (textOutcome v) ≡ can) ↔ (v ≡ good)
+    go good = (λ h. refl, λ e. refl)
+    go (badAt p) = (λ h. let z : _≡_ {A = ℕ} 0 1 = cc in absurd (omega arith), λ e. let z : _≡_ {A = ℕ} 0 1 = cc in absurd (omega arith))
+
+-- all cases of a value
+pub writable-exactly : (v : Value) (lent : List ℕ) → (writableValue v lent ≡ can) ↔ Writes v lent
+unfolding writableValue
+writable-exactly (boolean b) lent = (λ e. tt, λ h. refl)
+writable-exactly (real x) lent = (λ e. tt, λ h. refl)
+writable-exactly (double x) lent = (λ e. tt, λ h. refl)
+writable-exactly (onDate d) lent = date-exactly (d .year)
+writable-exactly (atTime t) lent = (λ e. tt, λ h. refl)
+writable-exactly (objectId n i) lent = id-exactly n i
+writable-exactly (characterString p) lent = text-exactly lent
+writable-exactly (octetString p) lent = (λ e. tt, λ h. refl)
+writable-exactly (enumerated x) lent = (λ e. tt, λ h. refl)
+writable-exactly (bitString u p) lent = bits-exactly u lent
+writable-exactly (unsignedInt x) lent = (λ e. tt, λ h. refl)
+writable-exactly (signedInt x) lent = (λ e. tt, λ h. refl)
 
 -- one byte set at the front, and then others behind it
 pub front-filled : (xs : List ℕ) (b : ℕ) (content : List ℕ) → 1 ≤ length xs → over (set xs 0 b) 1 content ≡ over xs 0 (b ∷ content)

@@ -6,3 +6,4 @@ pub mod Examples
 pub mod Fits
 pub mod Back
 pub mod Again
+pub mod Accepted

@@ -1,6 +1,7 @@
 -- Writing a value (ASHRAE 135, 20.2.3 to 20.2.14, with 01's rules): its bytes, and which values cannot be written.
 -- Assumes nothing.
-use Prim.Native.Nat.{ℕ, _+_, _-_, _*_}
+use Prim.Native.Nat.{ℕ, _+_, _-_, _*_, _≤_}
+use mathlib.Core.Path.{_≡_}
 use mathlib.Core.List.{List, [], _∷_}
 use lib.Dec.{ltb, eqb}
 use lib.ListN.{length}
@@ -12,6 +13,7 @@ use Rattle.types.specs.Writing.{Left, Writable, can, cannot, unwritable, writin
 use Rattle.numbers.specs.Integer.{lowBytes, unsignedBytes, signedBytes}
 use Rattle.tags.specs.Writing.{tagBytes}
 use Rattle.tags.specs.Item.{itemBytes, booleanByte}
+use Rattle.utf8.specs.Text.{Text}
 use Rattle.utf8.specs.Check.{checkOf}
 use Rattle.utf8.specs.Answer.{textOutcome}
 use Rattle.values.specs.Value.{Value, boolean, real, double, onDate, atTime, objectId, characterString, octetString, enumerated, bitString, unsignedInt, signedInt, Date, Time}
@@ -76,6 +78,21 @@ writableBy (enumerated x) lent = can
 writableBy (onDate d) lent = dateWritable (d .year)
 writableBy (atTime t) lent = can
 writableBy (objectId n i) lent = objectIdWritable n i
+
+-- the same, said and not computed (01, "Refused 12"; RFC 3629 for text)
+abbrev pub Writes : Value → List ℕ → Type 0
+Writes (boolean b) lent = Unit {0}
+Writes (unsignedInt x) lent = Unit {0}
+Writes (signedInt x) lent = Unit {0}
+Writes (real x) lent = Unit {0}
+Writes (double x) lent = Unit {0}
+Writes (octetString p) lent = Unit {0}
+Writes (characterString p) lent = Text lent
+Writes (bitString unused p) lent = (unused ≤ 7) × (length lent ≡ 0 → unused ≡ 0)
+Writes (enumerated x) lent = Unit {0}
+Writes (onDate d) lent = (1900 ≤ d .year) × (d .year ≤ 2155)
+Writes (atTime t) lent = Unit {0}
+Writes (objectId n i) lent = (n ≤ 1023) × (i ≤ 4194303)
 
 -- whether a value can be written, else 12 or 10
 unfoldable pub writableValue : Value → List ℕ → Writable

@@ -7,7 +7,7 @@ use lib.ListN.{length}
 use Rattle.types.specs.Answer.{accepted}
 use Rattle.types.specs.Writing.{can, writeAnswer, writing, paperWritten}
 use Rattle.numbers.proofs.Inside.{write-room}
-use Rattle.numbers.proofs.Wrote.{stored}
+use Rattle.numbers.proofs.Wrote.{accepted-stored}
 use Rattle.numbers.proofs.writing.extend_from_slice.Statement.{statement}
 use Rattle.numbers.proofs.writing.extend_from_slice.Tie as tie
 
@@ -33,7 +33,7 @@ same-length : tie.Need-same-length
 same-length c = search needs
 
 returns : tie.Need-returns
-returns c = stored _ can _ _ _ _ _ _ (answered (c .before .before .before .before .before)) refl (c .before .before .copy .ensures)
+returns c = accepted-stored _ can _ _ _ _ _ _ (answered (c .before .before .before .before .before)) refl (c .before .before .copy .ensures)
 
 same-length-2 : tie.Need-same-length-2
 same-length-2 c = search needs

@@ -9,7 +9,7 @@ use lib.ListN.{length}
 use Rattle.types.specs.Answer.{accepted}
 use Rattle.types.specs.Writing.{can, writeAnswer, writing, paperWritten}
 use Rattle.numbers.proofs.Inside.{write-room}
-use Rattle.numbers.proofs.Wrote.{stored}
+use Rattle.numbers.proofs.Wrote.{accepted-stored}
 use Rattle.numbers.proofs.Over.{one-replaced}
 use Rattle.numbers.proofs.writing.push.Statement.{statement}
 use Rattle.numbers.proofs.writing.push.Tie as tie
@@ -38,7 +38,7 @@ same-length c = search needs
 returns : tie.Need-returns
 returns c =
     let a = c .before .before .before .before .before .before .args in
-    stored 0 can 1 (a .item ∷ []) _ _ _ _ (answered (c .before)) refl (one-replaced (a .buf .now) (a .place) (a .item) (omega (arith, fits (c .before))))
+    accepted-stored 0 can 1 (a .item ∷ []) _ _ _ _ (answered (c .before)) refl (one-replaced (a .buf .now) (a .place) (a .item) (omega (arith, fits (c .before))))
 
 same-length-2 : tie.Need-same-length-2
 same-length-2 c = search needs

@@ -12,7 +12,7 @@ use Rattle.types.specs.Answer.{accepted}
 use Rattle.types.specs.Writing.{can, writeAnswer, writing, paperWritten}
 use Rattle.numbers.specs.Integer.{lowBytes, patternOf, signedLength, signedBytes}
 use Rattle.numbers.proofs.Inside.{write-room}
-use Rattle.numbers.proofs.Wrote.{stored}
+use Rattle.numbers.proofs.Wrote.{accepted-stored}
 use Rattle.numbers.proofs.Low.{low-bytes-of-pattern}
 use Rattle.numbers.proofs.Shortest.{signed-holds, signed-between, signed-length}
 use Rattle.numbers.proofs.writing.write_signed.Statement.{statement}
@@ -61,7 +61,7 @@ same-length c = search needs
 returns : tie.Need-returns
 returns c =
     let p : c .before .before .before .before .pattern .result ≡ patternOf 8 (c .before .before .before .before .before .before .before .before .before .before .before .before .args .value) = c .before .before .before .before .pattern .ensures ∙ ap (patternOf 8) (itself (c .before .before .before .before .before .before .before .before .before .before .before .before)) in
-    stored 0 can _ _ _ _ _ _ (answered (c .before .before .before .before .before .before)) (sized (c .before .before .before .before .before .before .before .before .before .before))
+    accepted-stored 0 can _ _ _ _ _ _ (answered (c .before .before .before .before .before .before)) (sized (c .before .before .before .before .before .before .before .before .before .before))
     (c .before .before .put .ensures ∙ simp (p, bytes (c .before .before .before .before .before .before .before .before .before .before)))
 
 same-length-2 : tie.Need-same-length-2

@@ -8,7 +8,7 @@ use Rattle.types.specs.Answer.{accepted}
 use Rattle.types.specs.Writing.{can, writeAnswer, writing, paperWritten}
 use Rattle.numbers.specs.Integer.{lowBytes, unsignedBytes}
 use Rattle.numbers.proofs.Inside.{write-room}
-use Rattle.numbers.proofs.Wrote.{stored}
+use Rattle.numbers.proofs.Wrote.{accepted-stored}
 use Rattle.numbers.proofs.Low.{low-bytes-length}
 use Rattle.numbers.proofs.writing.write_unsigned.Statement.{statement}
 use Rattle.numbers.proofs.writing.write_unsigned.Tie as tie
@@ -43,7 +43,7 @@ same-length c = search needs
 
 returns : tie.Need-returns
 returns c =
-    stored 0 can _ _ _ _ _ _ (answered (c .before .before .before .before .before)) (sized (c .before .before .before .before .before .before .before .before .before))
+    accepted-stored 0 can _ _ _ _ _ _ (answered (c .before .before .before .before .before)) (sized (c .before .before .before .before .before .before .before .before .before))
     (c .before .before .put .ensures ∙ simp (bytes (c .before .before .before .before .before .before .before .before .before)))
 
 same-length-2 : tie.Need-same-length-2

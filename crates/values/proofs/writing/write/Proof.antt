@@ -15,7 +15,7 @@ use Rattle.tags.specs.Writing.{tagValueAllowed, tagTo}
 use Rattle.values.specs.Value.{valueOf}
 use Rattle.values.specs.Writing.{writableValue, valueBytes}
 use Rattle.values.specs.declared.value.ApplicationDataValue.{ApplicationDataValue}
-use Rattle.values.proofs.Fits.{date-fits, id-fits}
+use Rattle.values.proofs.Fits.{date-exactly, id-exactly}
 use Rattle.values.proofs.writing.write.Statement.{statement}
 use Rattle.values.proofs.writing.write.Tie as tie
 
@@ -30,12 +30,12 @@ arm s e f = f ∙ ap (wanted s) (sym e)
 -- a date that can be written has a year from 1900 to 2155
 year : (c : tie.After-value4) → (1900 ≤ c .value4 .given .0 .0 .year) × (c .value4 .given .0 .0 .year ≤ 2155)
 unfolding writableValue
-year c = date-fits (c .value4 .given .0 .0 .year) (rw (c .value4 .given .1) at (c .before .before .before .before .pre .0))
+year c = date-exactly (c .value4 .given .0 .0 .year) .0 (rw (c .value4 .given .1) at (c .before .before .before .before .pre .0))
 
 -- an identifier that can be written has a type of ten bits and an instance of 22
 identifier : (c : tie.After-value6) → (c .value6 .given .0 .0 .«object_type» ≤ 1023) × (c .value6 .given .0 .0 .instance ≤ 4194303)
 unfolding writableValue
-identifier c = id-fits (c .value6 .given .0 .0 .«object_type») (c .value6 .given .0 .0 .instance) (rw (c .value6 .given .1) at (c .before .before .before .before .pre .0))
+identifier c = id-exactly (c .value6 .given .0 .0 .«object_type») (c .value6 .given .0 .0 .instance) .0 (rw (c .value6 .given .1) at (c .before .before .before .before .pre .0))
 
 -- a signed integer is read back from its bits as it is
 signed : tie.Need-returns-12
