@@ -6,17 +6,17 @@ use mathlib.Core.Path.{_≡_, _∙_, ap, sym}
 use mathlib.Core.List.{List}
 use Prim.Native.Nat.{ℕ, _+_, _-_, _≤_, min}
 use lib.ListN.{length}
-use Rattle.dump.specs.Lines.{left, paperPut}
+use Rattle.dump.specs.Lines.{lineLeft, paperPut}
 use Rattle.dump.specs.declared.line.LinePut.{LinePut}
 use Rattle.dump.proofs.Placed.{placed, moves-on, stays-inside, refused-for-room}
 use Rattle.apdu_dump.proofs.put_lines.Statement.{statement}
 use Rattle.apdu_dump.proofs.put_lines.Tie as tie
 
 abbrev Inv-loop : tie.InvT-loop
-Inv-loop buf ended first frame₀ out₀ before from₀ number₀ waiting₀ frame out from number waiting = (from ≤ length buf) × (number ≤ first + from) × (waiting ≤ length out) × (length out ≡ length out₀)
+Inv-loop buf ended first frame₀ out₀ from₀ number₀ waiting₀ frame out from number waiting = (from ≤ length buf) × (number ≤ first + from) × (waiting ≤ length out) × (length out ≡ length out₀)
 
 abbrev μ-loop : tie.MeasureT-loop
-μ-loop buf ended first frame₀ out₀ before from₀ number₀ waiting₀ frame out from number waiting = length buf - from + (length buf - from) + min waiting 1
+μ-loop buf ended first frame₀ out₀ from₀ number₀ waiting₀ frame out from number waiting = length buf - from + (length buf - from) + min waiting 1
 
 loop-holds : tie.Need-loop-holds Inv-loop μ-loop
 loop-holds c = search needs
@@ -36,7 +36,7 @@ loop-less c =
     let l = c .before .before .before .before .before .before .before .before .before .loop in
     let call = c .before .before .before .before .before .put-line in
     let out : List ℕ = call .last .1 .1 .1 .1 .1 .0 in
-    let p = placed (a .ended) (l .number) (a .buf .now) (l .from) (l .out) (l .waiting) (c .before .next .given .0 .0) (c .before .next .given .0 .1 .0) out (ap (λ (r : LinePut). left (paperPut r) out) (sym (c .before .next .given .1)) ∙ call .ensures .0) in
+    let p = placed (a .ended) (l .number) (a .buf .now) (l .from) (l .out) (l .waiting) (c .before .next .given .0 .0) (c .before .next .given .0 .1 .0) out (ap (λ (r : LinePut). lineLeft (paperPut r) out) (sym (c .before .next .given .1)) ∙ call .ensures .0) in
     let m = moves-on p in
     let i = stays-inside p (omega arith) in
     omega (arith, m .0, m .1)
@@ -47,7 +47,7 @@ loop-again c =
     let l = c .before .before .before .before .before .before .before .before .before .loop in
     let call = c .before .before .before .before .before .put-line in
     let out : List ℕ = call .last .1 .1 .1 .1 .1 .0 in
-    let p = placed (a .ended) (l .number) (a .buf .now) (l .from) (l .out) (l .waiting) (c .before .next .given .0 .0) (c .before .next .given .0 .1 .0) out (ap (λ (r : LinePut). left (paperPut r) out) (sym (c .before .next .given .1)) ∙ call .ensures .0) in
+    let p = placed (a .ended) (l .number) (a .buf .now) (l .from) (l .out) (l .waiting) (c .before .next .given .0 .0) (c .before .next .given .0 .1 .0) out (ap (λ (r : LinePut). lineLeft (paperPut r) out) (sym (c .before .next .given .1)) ∙ call .ensures .0) in
     let m = moves-on p in
     let i = stays-inside p (omega arith) in
     (omega (arith, m .1), omega (arith, m .0), omega (arith, i), omega arith)
@@ -73,7 +73,7 @@ loop-less-2 c =
     let l = c .before .before .before .before .before .before .before .before .before .before .before .loop in
     let call = c .before .before .before .before .before .before .before .put-line in
     let out : List ℕ = call .last .1 .1 .1 .1 .1 .0 in
-    let f = refused-for-room (a .ended) (l .number) (a .buf .now) (l .from) (l .out) (l .waiting) _ _ out (ap (λ (r : LinePut). left (paperPut r) out) (sym (c .before .before .before .enum-told2 .given .1)) ∙ call .ensures .0) (omega arith) (omega arith) in
+    let f = refused-for-room (a .ended) (l .number) (a .buf .now) (l .from) (l .out) (l .waiting) _ _ out (ap (λ (r : LinePut). lineLeft (paperPut r) out) (sym (c .before .before .before .enum-told2 .given .1)) ∙ call .ensures .0) (omega arith) (omega arith) in
     omega (arith, f)
 
 loop-again-2 : tie.Need-loop-again-2 Inv-loop μ-loop
