@@ -13,7 +13,7 @@ use borrow.Author.Tests.{ltb-true, ltb-false, eqb-true, eqb-false}
 use Rattle.types.proofs.Choices.{either}
 use Rattle.dump.specs.Hexadecimal.{textOf}
 use Rattle.dump.specs.Lines.{untilNewline, End, lineEnds, noLine, endFrom}
-use Rattle.dump.specs.Stream.{wholeOn, restOn, lastOf, linesBy, texts, Calls, all, stop, room, onward}
+use Rattle.dump.specs.Stream.{wholeOn, restOn, lastOf, linesBy, texts, Calls, nothingLeft, noLineEnds, noRoom, oneLine}
 use Rattle.dump.proofs.Placed.{placed, none-ended, text-there}
 use Rattle.dump.proofs.Cut.{line-first, line-passed, newline-there, no-whole-line, all-left, line-all}
 
@@ -95,14 +95,14 @@ none-of-nothing true = refl
 none-of-nothing false = refl
 
 pub calls-put : {xs : List ℕ} {ended : Bool} {from number last count : ℕ} {text : List ℕ} → Calls xs ended from number text last count → TextsPut xs ended from number text last count
-calls-put {xs} {ended} (all {number}) =
+calls-put {xs} {ended} (nothingLeft {number}) =
     record { put = rw (drop-length xs, none-of-nothing ended) refl; counted = rw (drop-length xs, none-of-nothing ended) (sym (add-zero number)); rest = λ f. rw (drop-length xs) refl }
-calls-put {xs} {ended} (stop {from} {number} out place e) =
+calls-put {xs} {ended} (noLineEnds {from} {number} out place e) =
     let w = none-ended ended number xs from out place out e in
     let n = no-line ended xs from (w .inside) (w .ending) in
     record { put = rw (n .lines) refl; counted = rw (n .lines) (sym (add-zero number)); rest = λ f. sym (n .rest f) }
-calls-put (room out place e c) = calls-put c
-calls-put {xs} {ended} (onward {from} {number} {last} {count} {text} out out′ place to after e c) =
+calls-put (noRoom out place e c) = calls-put c
+calls-put {xs} {ended} (oneLine {from} {number} {last} {count} {text} out out′ place to after e c) =
     let w = placed ended number xs from out place to after out′ e in
     let n = first-line ended xs from (w .inside) (w .there) to (w .ending) in
     let r = calls-put c in

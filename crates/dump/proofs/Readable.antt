@@ -10,7 +10,7 @@ use borrow.Author.Tests.{le-ltb}
 use Rattle.types.specs.Writing.{over}
 use Rattle.dump.specs.Hexadecimal.{textOf}
 use Rattle.dump.specs.Lines.{untilNewline, End, lineEnds, noLine, endFrom, textPut, lineLeft, putFrom, keptOf}
-use Rattle.dump.specs.Stream.{Calls, stop, onward, Reading, done, cut, read}
+use Rattle.dump.specs.Stream.{Calls, noLineEnds, oneLine, Reading, inputEnded, readFailed, pieceRead}
 use Rattle.dump.proofs.LineTexts.{no-line, ends-there}
 
 pub record Called (xs : List ℕ) (ended : Bool) (from number : ℕ) : Type 0 where
@@ -44,19 +44,19 @@ calls-from (suc fuel) xs ended from number h k =
     by-end (endFrom ended xs from) refl (λ to a b. calls-from fuel xs ended to (number + 1) b (omega arith))
   where
     by-end : (x : End) → x ≡ endFrom ended xs from → ((to : ℕ) → from < to → to ≤ length xs → Called xs ended to (number + 1)) → Called xs ended from number
-    by-end noLine e f = record { text = []; last = from; count = number; calls = stop empty 0 (no-line ended number xs from empty 0 h (omega (arith, empty-length)) e) }
+    by-end noLine e f = record { text = []; last = from; count = number; calls = noLineEnds empty 0 (no-line ended number xs from empty 0 h (omega (arith, empty-length)) e) }
     by-end (lineEnds there to) e f =
         let w = ends-there ended xs from there to h e in
         let r = f to (w .1) (w .2) in
-        record { text = _; last = r .last; count = r .count; calls = onward empty (over empty 0 (textOf number (untilNewline (drop from xs)))) 0 to (0 + length (textOf number (untilNewline (drop from xs)))) (put-there ended number xs from empty there to h (omega (arith, empty-length)) e) (r .calls) }
+        record { text = _; last = r .last; count = r .count; calls = oneLine empty (over empty 0 (textOf number (untilNewline (drop from xs)))) 0 to (0 + length (textOf number (untilNewline (drop from xs)))) (put-there ended number xs from empty there to h (omega (arith, empty-length)) e) (r .calls) }
 
 pub all-called : (xs : List ℕ) (ended : Bool) (number : ℕ) → Called xs ended 0 number
 all-called xs ended number = calls-from (suc (length xs)) xs ended 0 number (omega arith) (omega arith)
 
 pub all-readable : (ended : Bool) (pieces : List (List ℕ)) (kept : List ℕ) (number : ℕ) → Readable ended kept number pieces
-all-readable true [] kept number = let c = all-called kept true number in record { text = c .text; reading = done (c .calls) }
-all-readable false [] kept number = record { text = []; reading = cut }
+all-readable true [] kept number = let c = all-called kept true number in record { text = c .text; reading = inputEnded (c .calls) }
+all-readable false [] kept number = record { text = []; reading = readFailed }
 all-readable ended (piece ∷ pieces) kept number =
     let c = all-called (kept ++ piece) false number in
     let r = all-readable ended pieces (keptOf (kept ++ piece) (c .last)) (c .count) in
-    record { text = c .text ++ r .text; reading = read (c .calls) (r .reading) }
+    record { text = c .text ++ r .text; reading = pieceRead (c .calls) (r .reading) }

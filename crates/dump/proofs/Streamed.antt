@@ -12,7 +12,7 @@ use borrow.Author.Tests.{lt-ltb, ltb-true, ltb-false}
 use Rattle.types.specs.Choice.{if}
 use Rattle.dump.specs.Hexadecimal.{isFrame, textOf}
 use Rattle.dump.specs.Lines.{keptOf}
-use Rattle.dump.specs.Stream.{wholeOn, restOn, lastOf, linesBy, texts, dump, Reading, done, cut, read, joined}
+use Rattle.dump.specs.Stream.{wholeOn, restOn, lastOf, linesBy, texts, dump, Reading, inputEnded, readFailed, pieceRead, joined}
 use Rattle.dump.proofs.Cut.{whole-append, rest-append, texts-append, all-left, no-newline-taken, no-newline-left, whole-behind, rest-behind}
 use Rattle.dump.proofs.Called.{TextsPut, calls-put}
 
@@ -88,10 +88,10 @@ lines-in-two ended k p q e =
 -- a reading from where some of a line is kept, whose true beginning no end can tell from it
 reading-on : {ended : Bool} {kept : List ℕ} {number : ℕ} {pieces : List (List ℕ)} {text : List ℕ} (begun : List ℕ) → Reading ended kept number pieces text
     → Same kept begun → wholeOn [] kept ≡ [] → wholeOn [] begun ≡ [] → text ≡ texts number (linesBy ended (begun ++ joined pieces))
-reading-on begun (done {kept} {text} {number} {last} {count} c) s k b =
+reading-on begun (inputEnded {kept} {text} {number} {last} {count} c) s k b =
     calls-put c .put ∙ rw (k, all-left [] kept k, append-nil begun, b, all-left [] begun b) (same-last number kept begun s)
-reading-on begun (cut {kept} {number}) s k b = rw (append-nil begun, b) refl
-reading-on begun (read {ended} {kept} {piece} {text} {more} {pieces} {number} {last} {count} c r) s k b =
+reading-on begun (readFailed {kept} {number}) s k b = rw (append-nil begun, b) refl
+reading-on begun (pieceRead {ended} {kept} {piece} {text} {more} {pieces} {number} {last} {count} c r) s k b =
     let w : List (List ℕ) = wholeOn begun piece in
     let t : TextsPut (kept ++ piece) false 0 number text last count = calls-put c in
     let l : linesBy false (kept ++ piece) ≡ wholeOn kept piece = append-nil (wholeOn [] (kept ++ piece)) ∙ whole-behind kept piece k in

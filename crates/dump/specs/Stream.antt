@@ -43,21 +43,21 @@ dump ended input = texts 1 (linesBy ended input)
 -- the text that they put, the place that they come to, and the number of the line there.
 -- The buffer that the text is put into may be another one at each call; a call refused for want of room is made again.
 pub data Calls (xs : List ℕ) (ended : Bool) : (from number : ℕ) (text : List ℕ) (last count : ℕ) → Type 0 where
-  all : {number : ℕ} → Calls xs ended (length xs) number [] (length xs) number
-  stop : {from number : ℕ} (out : List ℕ) (place : ℕ) → lineLeft noneEnds out ≡ putFrom ended number xs from out place
+  nothingLeft : {number : ℕ} → Calls xs ended (length xs) number [] (length xs) number
+  noLineEnds : {from number : ℕ} (out : List ℕ) (place : ℕ) → lineLeft noneEnds out ≡ putFrom ended number xs from out place
       → Calls xs ended from number [] from number
-  room : {from number last count : ℕ} {text : List ℕ} (out : List ℕ) (place : ℕ) → lineLeft (notPut 13 (amount 86016)) out ≡ putFrom ended number xs from out place
+  noRoom : {from number last count : ℕ} {text : List ℕ} (out : List ℕ) (place : ℕ) → lineLeft (notPut 13 (amount 86016)) out ≡ putFrom ended number xs from out place
       → Calls xs ended from number text last count → Calls xs ended from number text last count
-  onward : {from number last count : ℕ} {text : List ℕ} (out out′ : List ℕ) (place to after : ℕ) → lineLeft (textPut to after) out′ ≡ putFrom ended number xs from out place
+  oneLine : {from number last count : ℕ} {text : List ℕ} (out out′ : List ℕ) (place to after : ℕ) → lineLeft (textPut to after) out′ ≡ putFrom ended number xs from out place
       → Calls xs ended to (number + 1) text last count → Calls xs ended from number (take (after - place) (drop place out′) ++ text) last count
 
 -- a reading of pieces: behind what is kept comes a piece, the lines that end are put, and `keep` keeps what is left;
 -- where the input has ended the last line is put, and where a read fails it is not
 pub data Reading : (ended : Bool) (kept : List ℕ) (number : ℕ) (pieces : List (List ℕ)) (text : List ℕ) → Type 0 where
-  done : {kept text : List ℕ} {number last count : ℕ} → Calls kept true 0 number text last count
+  inputEnded : {kept text : List ℕ} {number last count : ℕ} → Calls kept true 0 number text last count
       → Reading true kept number [] text
-  cut : {kept : List ℕ} {number : ℕ} → Reading false kept number [] []
-  read : {ended : Bool} {kept piece text more : List ℕ} {pieces : List (List ℕ)} {number last count : ℕ} → Calls (kept ++ piece) false 0 number text last count
+  readFailed : {kept : List ℕ} {number : ℕ} → Reading false kept number [] []
+  pieceRead : {ended : Bool} {kept piece text more : List ℕ} {pieces : List (List ℕ)} {number last count : ℕ} → Calls (kept ++ piece) false 0 number text last count
       → Reading ended (keptOf (kept ++ piece) last) count pieces more
       → Reading ended kept number (piece ∷ pieces) (text ++ more)
 
