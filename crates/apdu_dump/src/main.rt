@@ -2,7 +2,7 @@
 ghost use mathlib.Core.Path.{_≡_};
 ghost use Prim.Native.Nat.{_+_, _≤_, _<_};
 ghost use lib.ListN.{length};
-ghost use Rattle.apdu_dump.specs.Standing.{Inside, Numbered, Goes};
+ghost use Rattle.apdu_dump.specs.Standing.{Inside, Numbered, Makes, Goes, Takes};
 use dump::LinePut;
 use dump::MOST_BYTES;
 
@@ -82,6 +82,7 @@ fn put_lines(
 ) -> Texts
     requires { ⌜ (86016 ≤ length (now out)) × (first + length (now buf) < 18446744073709551616) ⌝ }
     ensures { λ r. ⌜ Numbered r first (length (now (buf .entry))) (length (now (out .entry))) ⌝ }
+    ensures { λ r. ⌜ Makes r (now (buf .entry)) ended first ⌝ }
 {
     let mut from = 0;
     let mut number = first;
@@ -121,6 +122,7 @@ fn take_lines(
 ) -> Turn
     requires { ⌜ (86016 ≤ length (now out)) × (number + length (now buf) < 18446744073709551616) ⌝ }
     ensures { λ r. ⌜ Goes r number (length (now (buf .entry))) ⌝ }
+    ensures { λ r. ⌜ Takes r (now (buf .entry)) number (now (buf .exit)) ⌝ }
 {
     match put_lines(buf, ended, number, frame, out) {
         Texts::Put {

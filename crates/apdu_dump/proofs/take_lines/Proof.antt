@@ -1,4 +1,4 @@
--- `apdu_dump::take_lines` is safe: the text that waits is inside its buffer, and what is kept is short.
+-- `apdu_dump::take_lines` is safe, and goes on as `Reading` has it: the text that waits is inside its buffer, and what is kept is short.
 -- Assumes nothing.
 use borrow.Author.Needs.{needs}
 use native.Mathlib.Omega.{arith}
@@ -13,7 +13,7 @@ enum-known-from : tie.Need-enum-known-from
 enum-known-from c = search needs
 
 send-requires : tie.Need-send-requires
-send-requires c κs = let g = rw (c .before .before .from .given .1) at (c .before .before .before .before .before .before .put-lines .ensures) in omega (arith, g .1)
+send-requires c κs = let g = rw (c .before .before .from .given .1) at (c .before .before .before .before .before .before .put-lines .ensures .0) in omega (arith, g .1)
 
 same-length : tie.Need-same-length
 same-length c = search needs
@@ -46,7 +46,12 @@ same-length-6 : tie.Need-same-length-6
 same-length-6 c = search needs
 
 returns-3 : tie.Need-returns-3
-returns-3 c = let g = rw (c .before .before .before .before .before .before .before .before .before .from .given .1) at (c .before .before .before .before .before .before .before .before .before .before .before .before .before .put-lines .ensures) in (kept-short _ _ _ (c .before .before .keep .ensures .0), omega (arith, g .0))
+returns-3 c =
+    let a = c .before .before .before .before .before .before .before .before .before .before .before .before .before .before .before .before .before .before .before .args in
+    let g = rw (c .before .before .before .before .before .before .before .before .before .from .given .1) at (c .before .before .before .before .before .before .before .before .before .before .before .before .before .put-lines .ensures .0) in
+    let m = rw (c .before .before .before .before .before .before .before .before .before .from .given .1, c .before .before .before .before .if2 .left) at (c .before .before .before .before .before .before .before .before .before .before .before .before .before .put-lines .ensures .1) in
+    let k = c .before .before .keep .ensures in
+    ((kept-short _ _ _ (k .0), omega (arith, g .0)), record { last = _; made = m; many = k .0; bytes = k .1 })
 
 same-length-7 : tie.Need-same-length-7
 same-length-7 c = search needs

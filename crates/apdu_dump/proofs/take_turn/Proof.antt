@@ -54,7 +54,7 @@ returns c =
     let end : ℕ = c .before .before .before .before .before .before .before .before .before .before .before .before .before .before .before .before .before .args .kept + c .before .before .before .before .before .before .before .before .before .count .given .0 .0 in
     let g = rw (c .before .before .before .before .before .before .before .before .before .count .given .1) at (c .before .before .before .before .before .before .before .before .before .before .before .before .before .read-more .ensures) in
     let h : end - 0 ≤ 65536 = omega (arith, g) in
-    goes-on (c .before .before .before .before .take-lines .result) (c .before .before .before .before .before .before .before .before .before .before .before .before .before .before .before .before .before .args .number) (end - 0) 65536 _ (c .before .before .before .before .take-lines .ensures) h
+    goes-on (c .before .before .before .before .take-lines .result) (c .before .before .before .before .before .before .before .before .before .before .before .before .before .before .before .before .before .args .number) (end - 0) 65536 _ (c .before .before .before .before .take-lines .ensures .0) h
 
 same-length-3 : tie.Need-same-length-3
 same-length-3 c = search needs
