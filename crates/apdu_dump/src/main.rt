@@ -2,12 +2,21 @@
 ghost use mathlib.Core.Path.{_≡_};
 ghost use Prim.Native.Nat.{_+_, _≤_, _<_};
 ghost use lib.ListN.{length};
-ghost use Rattle.apdu_dump.specs.Standing.{Inside, Goes};
+ghost use Rattle.apdu_dump.specs.Standing.{Inside, Numbered, Makes, Goes, Takes};
 use dump::LinePut;
 use dump::MOST_BYTES;
 
 // The most reads: more than any run makes, since nothing says that the input ends, and so few that the lines can be numbered.
 const MOST_READS: u64 = 70368744177664;
+
+// What a read comes to.
+enum Got {
+    // So many bytes, none where the input has ended.
+    Bytes(usize),
+    // A signal came before any byte did: it is to be read again.
+    Interrupted,
+    Failed,
+}
 
 // Where the texts of the lines that were read stand.
 enum Texts {
@@ -21,15 +30,11 @@ enum Texts {
     Failed,
 }
 
-// What a read comes to.
+// What a turn comes to.
 enum Turn {
-    // So many bytes of a line that has not ended are kept; its number, and how much text waits to be written.
-    On {
-        kept: usize,
-        number: u64,
-        waiting: usize,
-    },
-    // The input has ended, or the text could not be written.
+    // So many bytes of a line that has not ended are kept, and its number.
+    On { kept: usize, number: u64 },
+    // The input has ended, or a read or a write failed.
     Ended,
 }
 
@@ -40,11 +45,31 @@ fn text_buffer() -> [u8; 262144]
     [0; 262144]
 }
 
-// Writes the text that waits, and answers whether all went well.
+// Reads once behind what is kept; standard error says why where that fails.
+fn read_more(buf: &mut [u8], kept: usize) -> Got
+    requires { ⌜ kept ≤ length (now buf) ⌝ }
+    ensures { λ r. ⌜ Inside r kept (length (now (buf .entry))) ⌝ }
+{
+    let got = libc::read(0, &mut buf[kept..]);
+    if got >= 0 {
+        return Got::Bytes(io::count(got, &buf[kept..]));
+    }
+    if os::errno() == libc::EINTR {
+        return Got::Interrupted;
+    }
+    os::fail(b"apdu-dump: standard input");
+    Got::Failed
+}
+
+// Writes the text that waits, and answers whether all went well; standard error says why where it did not.
 fn send(out: &[u8], waiting: usize) -> bool
     requires { ⌜ waiting ≤ length (now out) ⌝ }
 {
-    io::write_all(1, &out[0..waiting])
+    if io::write_all(1, &out[0..waiting]) {
+        return true;
+    }
+    os::fail(b"apdu-dump: standard output");
+    false
 }
 
 // Puts the texts of the lines that were read, and writes those that wait whenever there is no room for the next.
@@ -54,14 +79,14 @@ fn put_lines(
     first: u64,
     frame: &mut [u8; MOST_BYTES],
     out: &mut [u8],
-    before: usize,
 ) -> Texts
-    requires { ⌜ (86016 ≤ length (now out)) × (before ≤ length (now out)) × (first + length (now buf) < 18446744073709551616) ⌝ }
-    ensures { λ r. ⌜ Inside r first (length (now (buf .entry))) (length (now (out .entry))) ⌝ }
+    requires { ⌜ (86016 ≤ length (now out)) × (first + length (now buf) < 18446744073709551616) ⌝ }
+    ensures { λ r. ⌜ Numbered r first (length (now (buf .entry))) (length (now (out .entry))) ⌝ }
+    ensures { λ r. ⌜ Makes r (now (buf .entry)) ended first ⌝ }
 {
     let mut from = 0;
     let mut number = first;
-    let mut waiting = before;
+    let mut waiting = 0;
     while from < buf.len() {
         match dump::put_line(buf, from, ended, number, frame, out, waiting) {
             LinePut::Put { next, place } => {
@@ -87,61 +112,76 @@ fn put_lines(
     }
 }
 
-// Reads once behind what is kept, and puts the texts of the lines that have ended.
-fn take_turn(
+// Writes the texts of the lines of what was read, and keeps what is left of it where the input has not ended.
+fn take_lines(
     buf: &mut [u8],
-    kept: usize,
+    ended: bool,
     number: u64,
     frame: &mut [u8; MOST_BYTES],
     out: &mut [u8],
-    waiting: usize,
 ) -> Turn
-    requires { ⌜ (65536 ≡ length (now buf)) × (86016 ≤ length (now out)) ⌝ }
-    requires { ⌜ (kept ≤ 2953) × (waiting ≤ length (now out)) × (number < 9223372036854775808) ⌝ }
-    ensures { λ r. ⌜ Goes r number (length (now (out .entry))) ⌝ }
+    requires { ⌜ (86016 ≤ length (now out)) × (number + length (now buf) < 18446744073709551616) ⌝ }
+    ensures { λ r. ⌜ Goes r number (length (now (buf .entry))) ⌝ }
+    ensures { λ r. ⌜ Takes r (now (buf .entry)) number (now (buf .exit)) ⌝ }
 {
-    let got = libc::read(0, &mut buf[kept..]);
-    let count = io::count(got, &buf[kept..]);
-    let end = kept + count;
-    match put_lines(&buf[0..end], count == 0, number, frame, out, waiting) {
+    match put_lines(buf, ended, number, frame, out) {
         Texts::Put {
             from,
             number: next,
-            waiting: more,
+            waiting,
         } => {
-            if count == 0 {
-                send(out, more);
+            if !send(out, waiting) {
+                return Turn::Ended;
+            }
+            if ended {
                 return Turn::Ended;
             }
             Turn::On {
-                kept: dump::keep(buf, from, end),
+                kept: dump::keep(buf, from),
                 number: next,
-                waiting: more,
             }
         }
         Texts::Failed => Turn::Ended,
     }
 }
 
-// Reads until the input ends or the text cannot be written.
+// Reads once and takes the lines; an interrupted read changes nothing.
+fn take_turn(
+    buf: &mut [u8],
+    kept: usize,
+    number: u64,
+    frame: &mut [u8; MOST_BYTES],
+    out: &mut [u8],
+) -> Turn
+    requires { ⌜ (65536 ≡ length (now buf)) × (86016 ≤ length (now out)) × (kept ≤ 2953) × (number < 9223372036854775808) ⌝ }
+    ensures { λ r. ⌜ Goes r number 65536 ⌝ }
+{
+    match read_more(buf, kept) {
+        Got::Bytes(count) => {
+            let end = kept + count;
+            take_lines(&mut buf[0..end], count == 0, number, frame, out)
+        }
+        Got::Interrupted => Turn::On { kept, number },
+        Got::Failed => Turn::Ended,
+    }
+}
+
+// Takes turns until the input ends, or a read or a write fails.
 fn run(buf: &mut [u8], frame: &mut [u8; MOST_BYTES], out: &mut [u8])
     requires { ⌜ (65536 ≡ length (now buf)) × (86016 ≤ length (now out)) ⌝ }
 {
     let mut kept = 0;
     let mut number: u64 = 1;
-    let mut waiting = 0;
     let mut reads = MOST_READS;
     while reads > 0 {
         reads -= 1;
-        match take_turn(buf, kept, number, frame, out, waiting) {
+        match take_turn(buf, kept, number, frame, out) {
             Turn::On {
                 kept: bytes,
                 number: next,
-                waiting: more,
             } => {
                 kept = bytes;
                 number = next;
-                waiting = more;
                 continue;
             }
             Turn::Ended => {

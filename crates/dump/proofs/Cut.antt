@@ -12,7 +12,7 @@ use borrow.Author.Tests.{eqb-true}
 use Rattle.types.specs.Choice.{if}
 use Rattle.types.proofs.Choices.{either}
 use Rattle.dump.specs.Hexadecimal.{textOf}
-use Rattle.dump.specs.Lines.{upTo}
+use Rattle.dump.specs.Lines.{untilNewline}
 use Rattle.dump.specs.Stream.{wholeOn, restOn, texts}
 
 -- how bytes are cut into lines does not depend on how they came
@@ -43,14 +43,14 @@ texts-append n (l ∷ ls) ms =
     ap (λ (t : List ℕ). textOf n l ++ t) (texts-append (n + 1) ls ms ∙ rw e refl) ∙ sym (append-assoc (textOf n l) (texts (n + 1) ls) (texts (n + suc (length ls)) ms))
 
 -- a line and its newline, then more
-pub line-first : (k ys r : List ℕ) → wholeOn k (upTo ys ++ (10 ∷ r)) ≡ (k ++ upTo ys) ∷ wholeOn [] r
+pub line-first : (k ys r : List ℕ) → wholeOn k (untilNewline ys ++ (10 ∷ r)) ≡ (k ++ untilNewline ys) ∷ wholeOn [] r
 line-first k [] r = ap (λ (m : List ℕ). m ∷ wholeOn [] r) (sym (append-nil k))
 line-first k (b ∷ bs) r =
     either (λ (m : List ℕ). wholeOn k (m ++ (10 ∷ r)) ≡ (k ++ m) ∷ wholeOn [] r) (eqb b 10)
     (λ e. ap (λ (m : List ℕ). m ∷ wholeOn [] r) (sym (append-nil k)))
-    (λ e. rw e (line-first (k ++ (b ∷ [])) bs r ∙ ap (λ (m : List ℕ). m ∷ wholeOn [] r) (append-assoc k (b ∷ []) (upTo bs))))
+    (λ e. rw e (line-first (k ++ (b ∷ [])) bs r ∙ ap (λ (m : List ℕ). m ∷ wholeOn [] r) (append-assoc k (b ∷ []) (untilNewline bs))))
 
-pub line-passed : (k ys r : List ℕ) → restOn k (upTo ys ++ (10 ∷ r)) ≡ restOn [] r
+pub line-passed : (k ys r : List ℕ) → restOn k (untilNewline ys ++ (10 ∷ r)) ≡ restOn [] r
 line-passed k [] r = refl
 line-passed k (b ∷ bs) r =
     either (λ (m : List ℕ). restOn k (m ++ (10 ∷ r)) ≡ restOn [] r) (eqb b 10)
@@ -58,7 +58,7 @@ line-passed k (b ∷ bs) r =
     (λ e. rw e (line-passed (k ++ (b ∷ [])) bs r))
 
 -- a line that ends before the end has a newline there
-pub newline-there : (ys : List ℕ) → length (upTo ys) < length ys → ys ≡ upTo ys ++ (10 ∷ drop (suc (length (upTo ys))) ys)
+pub newline-there : (ys : List ℕ) → length (untilNewline ys) < length ys → ys ≡ untilNewline ys ++ (10 ∷ drop (suc (length (untilNewline ys))) ys)
 newline-there [] h = absurd (omega arith)
 newline-there (b ∷ bs) h =
     either (λ (m : List ℕ). length m < suc (length bs) → b ∷ bs ≡ m ++ (10 ∷ drop (suc (length m)) (b ∷ bs))) (eqb b 10)
@@ -67,12 +67,12 @@ newline-there (b ∷ bs) h =
     h
 
 -- bytes with no newline are no whole line, and all of them are left
-pub no-whole-line : (k ys : List ℕ) → length ys ≤ length (upTo ys) → wholeOn k ys ≡ []
+pub no-whole-line : (k ys : List ℕ) → length ys ≤ length (untilNewline ys) → wholeOn k ys ≡ []
 no-whole-line k [] h = refl
 no-whole-line k (b ∷ bs) h =
     both (eqb b 10) h (no-whole-line (k ++ (b ∷ [])) bs)
   where
-    both : (t : Bool) → suc (length bs) ≤ length (if t [] (b ∷ upTo bs)) → (length bs ≤ length (upTo bs) → wholeOn (k ++ (b ∷ [])) bs ≡ []) → if t (k ∷ wholeOn [] bs) (wholeOn (k ++ (b ∷ [])) bs) ≡ []
+    both : (t : Bool) → suc (length bs) ≤ length (if t [] (b ∷ untilNewline bs)) → (length bs ≤ length (untilNewline bs) → wholeOn (k ++ (b ∷ [])) bs ≡ []) → if t (k ∷ wholeOn [] bs) (wholeOn (k ++ (b ∷ [])) bs) ≡ []
     both true q f = absurd (omega arith)
     both false q f = f (omega arith)
 
@@ -86,7 +86,7 @@ all-left k (b ∷ bs) e =
     both false q f = f q ∙ append-assoc k (b ∷ []) bs
 
 -- a line with no newline behind it is all there is
-pub line-all : (ys : List ℕ) → length ys ≤ length (upTo ys) → upTo ys ≡ ys
+pub line-all : (ys : List ℕ) → length ys ≤ length (untilNewline ys) → untilNewline ys ≡ ys
 line-all [] h = refl
 line-all (b ∷ bs) h =
     either (λ (m : List ℕ). suc (length bs) ≤ length m → m ≡ b ∷ bs) (eqb b 10)

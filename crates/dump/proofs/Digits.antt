@@ -12,7 +12,7 @@ use borrow.Author.Tests.{lt-ltb, le-ltb, ltb-false, eq-eqb, ne-eqb, eqb-true, eq
 use Rattle.types.specs.Choice.{if}
 use Rattle.types.proofs.Choices.{either}
 use Rattle.dump.specs.Hexadecimal.{nibbleOf, pairs, leading, isFrame, textBy, textOf}
-use Rattle.dump.specs.Lines.{upTo}
+use Rattle.dump.specs.Lines.{untilNewline}
 
 -- the ranges of bytes
 module _ (c : ℕ) where
@@ -77,7 +77,7 @@ two-digits-each (a ∷ b ∷ r) =
     (λ e. either (λ (m : List ℕ). length m + length m ≤ suc (suc (length r))) (ltb 15 (nibbleOf b)) (λ d. omega arith) (λ d. omega (arith, two-digits-each r)))
 
 -- the pairs of digits are those of the line: none of them goes past a newline
-pub pairs-of-line : (xs : List ℕ) → pairs (upTo xs) ≡ pairs xs
+pub pairs-of-line : (xs : List ℕ) → pairs (untilNewline xs) ≡ pairs xs
 pairs-of-line [] = refl
 pairs-of-line (a ∷ []) = either (λ (m : List ℕ). pairs m ≡ []) (eqb a 10) (λ e. refl) (λ e. refl)
 pairs-of-line (a ∷ b ∷ r) =
@@ -88,16 +88,16 @@ pairs-of-line (a ∷ b ∷ r) =
     (λ d. rw (pairs-of-line r) refl))
 
 -- so a line goes on behind as many of its pairs as one likes
-pub line-behind-pairs : (n : ℕ) (xs : List ℕ) → n ≤ length (pairs xs) → length (upTo xs) ≡ n + n + length (upTo (drop (n + n) xs))
+pub line-behind-pairs : (n : ℕ) (xs : List ℕ) → n ≤ length (pairs xs) → length (untilNewline xs) ≡ n + n + length (untilNewline (drop (n + n) xs))
 line-behind-pairs zero xs h = omega arith
 line-behind-pairs (suc n) [] h = absurd (omega arith)
 line-behind-pairs (suc n) (a ∷ []) h = absurd (omega arith)
 line-behind-pairs (suc n) (a ∷ b ∷ r) h =
     let two : suc n + suc n ≡ suc (suc (n + n)) = omega arith in
     rw two
-    (either (λ (m : List ℕ). suc n ≤ length m → length (upTo (a ∷ b ∷ r)) ≡ suc (suc (n + n)) + length (upTo (drop (n + n) r))) (ltb 15 (nibbleOf a))
+    (either (λ (m : List ℕ). suc n ≤ length m → length (untilNewline (a ∷ b ∷ r)) ≡ suc (suc (n + n)) + length (untilNewline (drop (n + n) r))) (ltb 15 (nibbleOf a))
     (λ e k. absurd (omega arith))
-    (λ e. either (λ (m : List ℕ). suc n ≤ length m → length (upTo (a ∷ b ∷ r)) ≡ suc (suc (n + n)) + length (upTo (drop (n + n) r))) (ltb 15 (nibbleOf b))
+    (λ e. either (λ (m : List ℕ). suc n ≤ length m → length (untilNewline (a ∷ b ∷ r)) ≡ suc (suc (n + n)) + length (untilNewline (drop (n + n) r))) (ltb 15 (nibbleOf b))
     (λ d k. absurd (omega arith))
     (λ d k. rw (digit-no-newline a e, digit-no-newline b d) (omega (arith, line-behind-pairs n r (omega arith)))))
     h)

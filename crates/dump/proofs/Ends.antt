@@ -11,32 +11,32 @@ use lib.ListN.{length, drop, getD}
 use lib.Seq.{drop-cons, drop-length}
 use Rattle.types.specs.Choice.{if}
 use Rattle.types.proofs.Choices.{either}
-use Rattle.dump.specs.Lines.{upTo, ends, noLine, endFrom}
+use Rattle.dump.specs.Lines.{untilNewline, lineEnds, noLine, endFrom}
 
 -- the byte at a place ends the line, or is in it
-pub line-step : (xs : List ℕ) (at : ℕ) → at < length xs → upTo (drop at xs) ≡ if (eqb (getD xs at 0) 10) [] (getD xs at 0 ∷ upTo (drop (suc at) xs))
+pub line-step : (xs : List ℕ) (at : ℕ) → at < length xs → untilNewline (drop at xs) ≡ if (eqb (getD xs at 0) 10) [] (getD xs at 0 ∷ untilNewline (drop (suc at) xs))
 line-step xs at h = rw (drop-cons xs at 0 h) refl
 
 -- a line is no longer than what was read
-pub line-inside : (xs : List ℕ) → length (upTo xs) ≤ length xs
+pub line-inside : (xs : List ℕ) → length (untilNewline xs) ≤ length xs
 line-inside [] = omega arith
 line-inside (b ∷ bs) = either (λ (m : List ℕ). length m ≤ suc (length bs)) (eqb b 10) (λ e. omega arith) (λ e. omega (arith, line-inside bs))
 
 -- nothing stands behind the last place
-pub nothing-behind : (xs : List ℕ) (at : ℕ) → at ≡ length xs → upTo (drop at xs) ≡ []
+pub nothing-behind : (xs : List ℕ) (at : ℕ) → at ≡ length xs → untilNewline (drop at xs) ≡ []
 nothing-behind xs at e = rw (e, drop-length xs) refl
 
 -- a place where a newline stands, with none before it, ends the line
-pub ends-by-newline : (xs : List ℕ) (from at : ℕ) (ended : Bool) → at < length xs → from + length (upTo (drop from xs)) ≡ at + length (upTo (drop at xs)) → getD xs at 0 ≡ 10 → ends at (at + 1) ≡ endFrom ended xs from
+pub ends-by-newline : (xs : List ℕ) (from at : ℕ) (ended : Bool) → at < length xs → from + length (untilNewline (drop from xs)) ≡ at + length (untilNewline (drop at xs)) → getD xs at 0 ≡ 10 → lineEnds at (at + 1) ≡ endFrom ended xs from
 unfolding endFrom
 ends-by-newline xs from at ended h e n =
-    let u : upTo (drop at xs) ≡ [] = line-step xs at h ∙ rw (eq-eqb (getD xs at 0) 10 n) refl in
-    let p : from + length (upTo (drop from xs)) ≡ at = omega (arith, ap length u) in
+    let u : untilNewline (drop at xs) ≡ [] = line-step xs at h ∙ rw (eq-eqb (getD xs at 0) 10 n) refl in
+    let p : from + length (untilNewline (drop from xs)) ≡ at = omega (arith, ap length u) in
     rw (p, lt-ltb at (length xs) h) refl
 
 -- where no newline is left, the line ends with the input, if it is not empty, or not at all
-module _ (xs : List ℕ) (from at : ℕ) (all : at ≡ length xs) (e : from + length (upTo (drop from xs)) ≡ at + length (upTo (drop at xs))) where
-  pub goes-to-the-last : from + length (upTo (drop from xs)) ≡ length xs
+module _ (xs : List ℕ) (from at : ℕ) (all : at ≡ length xs) (e : from + length (untilNewline (drop from xs)) ≡ at + length (untilNewline (drop at xs))) where
+  pub goes-to-the-last : from + length (untilNewline (drop from xs)) ≡ length xs
   goes-to-the-last = omega (arith, ap length (nothing-behind xs at all))
 
   pub has-not-ended : (ended : Bool) → ended ≡ false → noLine ≡ endFrom ended xs from
@@ -47,6 +47,6 @@ module _ (xs : List ℕ) (from at : ℕ) (all : at ≡ length xs) (e : from + le
   unfolding endFrom
   nothing-left ended t h = rw (t, goes-to-the-last, le-ltb (length xs) (length xs) (omega arith), eq-eqb from (length xs) (omega arith)) refl
 
-  pub ends-with-input : (ended : Bool) → ended ≡ true → (at ≡ from → ⊥) → ends at at ≡ endFrom ended xs from
+  pub ends-with-input : (ended : Bool) → ended ≡ true → (at ≡ from → ⊥) → lineEnds at at ≡ endFrom ended xs from
   unfolding endFrom
   ends-with-input ended t h = rw (t, goes-to-the-last, le-ltb (length xs) (length xs) (omega arith), ne-eqb from (length xs) (λ k. h (omega arith)), all) refl

@@ -8,11 +8,10 @@ use native.Mathlib.Nat.{add-comm, zero-add}
 use native.Mathlib.Numerals.{add-one}
 use native.Mathlib.Omega.{arith}
 use lib.ListN.{length, take, drop, getD, set, take-append-drop, length-take, length-drop}
-use lib.Seq.{take-suc, take-suc-set, drop-set-lt, getD-drop, drop-drop, take-all, take-take, length-take-le}
+use lib.Seq.{take-suc, take-suc-set, drop-set-lt, getD-drop, drop-drop, take-all, length-take-le}
 use lib.Dec.{ltb}
-use borrow.Author.Tests.{lt-ltb, le-ltb, ltb-true, ltb-false}
+use borrow.Author.Tests.{ltb-true, ltb-false}
 use Rattle.types.specs.Writing.{over}
-use Rattle.types.proofs.Choices.{either}
 use Rattle.dump.specs.Lines.{keptOf}
 
 -- one byte more stands at the start
@@ -29,46 +28,38 @@ pub rest-unmoved : (xs ys : List ℕ) (from i : ℕ) → drop i ys ≡ drop i xs
 rest-unmoved xs ys from i d =
     drop-set-lt (i + 1) ys i (getD ys (from + i) 0) (omega arith) ∙ sym (drop-drop 1 i ys) ∙ ap (λ (l : List ℕ). drop 1 l) d ∙ drop-drop 1 i xs
 
--- the lesser of two counts is taken
-lesser-taken : (n count : ℕ) (l : List ℕ) (t : Bool) → ltb n 2953 ≡ t → count ≡ min n 2953 → take 2953 (take n l) ≡ take count l
-lesser-taken n count l true e c =
-    let h : n < 2953 = ltb-true n 2953 e in
-    let k : count ≡ n = omega arith in
-    rw k (take-all 2953 (take n l) (omega (arith, length-take n l)))
-lesser-taken n count l false e c =
-    let h : 2953 ≤ n = ltb-false n 2953 e in
-    let k : count ≡ 2953 = omega arith in
-    rw k (take-take 2953 n l h)
-
 -- what is kept, by its count
-pub kept-by-count : (xs : List ℕ) (from end count : ℕ) → end ≤ length xs → count ≡ min (end - from) 2953 → keptOf xs from end ≡ take count (drop from xs)
+pub kept-by-count : (xs : List ℕ) (from count : ℕ) → count ≡ min (length xs - from) 2953 → keptOf xs from ≡ take count (drop from xs)
 unfolding keptOf
-kept-by-count xs from end count h e = rw (le-ltb (length xs) end h) (lesser-taken (end - from) count (drop from xs) (ltb (end - from) 2953) refl e)
+kept-by-count xs from count e =
+    by-length (ltb (length xs - from) 2953) refl
+  where
+    by-length : (t : Bool) → ltb (length xs - from) 2953 ≡ t → take 2953 (drop from xs) ≡ take count (drop from xs)
+    by-length true t =
+        let h : length xs - from < 2953 = ltb-true (length xs - from) 2953 t in
+        take-all 2953 (drop from xs) (omega (arith, length-drop from xs)) ∙ sym (take-all count (drop from xs) (omega (arith, length-drop from xs)))
+    by-length false t =
+        let h : 2953 ≤ length xs - from = ltb-false (length xs - from) 2953 t in
+        let k : count ≡ 2953 = omega arith in
+        rw k refl
 
 -- all are moved
 pub all-moved : (xs ys kept : List ℕ) (count : ℕ) → take count ys ≡ kept → drop count ys ≡ drop count xs → length kept ≡ count → ys ≡ over xs 0 kept
 all-moved xs ys kept count t d e = sym (take-append-drop count ys) ∙ rw (t, d, e, zero-add count) refl
 
-pub kept-all : (xs ys : List ℕ) (from end count moved : ℕ) → from ≤ end → end ≤ length xs → count ≡ min (end - from) 2953 → moved ≡ count
+pub kept-all : (xs ys : List ℕ) (from count moved : ℕ) → from ≤ length xs → count ≡ min (length xs - from) 2953 → moved ≡ count
     → take moved ys ≡ take moved (drop from xs) → drop moved ys ≡ drop moved xs
-    → (count ≡ length (keptOf xs from end)) × (ys ≡ over xs 0 (keptOf xs from end))
-kept-all xs ys from end count moved f h e m t d =
-    let k : keptOf xs from end ≡ take count (drop from xs) = kept-by-count xs from end count h e in
+    → (count ≡ length (keptOf xs from)) × (ys ≡ over xs 0 (keptOf xs from))
+kept-all xs ys from count moved f e m t d =
+    let k : keptOf xs from ≡ take count (drop from xs) = kept-by-count xs from count e in
     let n : length (take count (drop from xs)) ≡ count = length-take-le count (drop from xs) (omega (arith, length-drop from xs)) in
     rw k (sym n, all-moved xs ys (take count (drop from xs)) count (rw m at t) (rw m at d) n)
 
--- nothing is kept up to a place past the end, or from a place behind the other
-pub none-kept-past-the-end : (xs : List ℕ) (from end : ℕ) → length xs < end → (0 ≡ length (keptOf xs from end)) × (xs ≡ over xs 0 (keptOf xs from end))
-unfolding keptOf
-none-kept-past-the-end xs from end h = rw (lt-ltb (length xs) end h) (refl, refl)
-
-pub none-kept-backwards : (xs : List ℕ) (from end : ℕ) → end ≤ length xs → end < from → (0 ≡ length (keptOf xs from end)) × (xs ≡ over xs 0 (keptOf xs from end))
-none-kept-backwards xs from end h k = let z : end - from ≡ 0 = omega arith in rw (kept-by-count xs from end 0 h (omega arith)) (refl, refl)
+-- nothing is kept from a place past the end on
+pub none-kept-past-the-end : (xs : List ℕ) (from : ℕ) → length xs < from → (0 ≡ length (keptOf xs from)) × (xs ≡ over xs 0 (keptOf xs from))
+none-kept-past-the-end xs from h = rw (kept-by-count xs from 0 (omega arith)) (refl, refl)
 
 -- what is kept is short
-pub kept-short : (xs : List ℕ) (from end count : ℕ) → count ≡ length (keptOf xs from end) → count ≤ 2953
+pub kept-short : (xs : List ℕ) (from count : ℕ) → count ≡ length (keptOf xs from) → count ≤ 2953
 unfolding keptOf
-kept-short xs from end count =
-    either (λ (l : List ℕ). count ≡ length l → count ≤ 2953) (ltb (length xs) end)
-    (λ d e. omega arith)
-    (λ d e. omega (arith, length-take 2953 (take (end - from) (drop from xs))))
+kept-short xs from count e = omega (arith, length-take 2953 (drop from xs))

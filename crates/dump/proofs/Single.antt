@@ -3,14 +3,14 @@
 use mathlib.Core.Path.{_≡_, refl, ap}
 use Rattle.types.specs.Refusal.{row}
 use Rattle.types.proofs.Single.{told-apart, programRefusal, refusal-back}
-use Rattle.dump.specs.Lines.{Answer, put, none, refused, paperPut}
+use Rattle.dump.specs.Lines.{LineAnswer, textPut, noneEnds, notPut, paperPut}
 use Rattle.dump.specs.declared.line.LinePut.{LinePut}
 use Rattle.dump.specs.declared.line.LinePut.the-variants as p
 
-abbrev answered : Answer → LinePut
-answered (put next place) = p.Put next place
-answered none = p.NoLine
-answered (refused k c) = p.Refused (programRefusal (row k c))
+abbrev answered : LineAnswer → LinePut
+answered (textPut next place) = p.Put next place
+answered noneEnds = p.NoLine
+answered (notPut k c) = p.Refused (programRefusal (row k c))
 
 answered-back : (x : LinePut) → answered (paperPut x) ≡ x
 answered-back (p.Put next place) = refl

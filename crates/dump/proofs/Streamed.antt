@@ -3,16 +3,16 @@
 use mathlib.Core.Path.{_≡_, refl, _∙_, ap}
 use mathlib.Core.Bool.{Bool, true, false}
 use mathlib.Core.List.{List, [], _∷_, _++_, append-assoc, append-nil}
-use Prim.Native.Nat.{ℕ, _+_, _-_, _≤_, _<_}
+use Prim.Native.Nat.{ℕ, _+_, _≤_, _<_}
 use native.Mathlib.Omega.{arith}
 use lib.Dec.{ltb, eqb}
-use lib.ListN.{length, take, drop, length-append, length-drop}
+use lib.ListN.{length, take, drop, length-append}
 use lib.Seq.{take-all, length-take-le}
-use borrow.Author.Tests.{lt-ltb, le-ltb, ltb-true, ltb-false}
+use borrow.Author.Tests.{lt-ltb, ltb-true, ltb-false}
 use Rattle.types.specs.Choice.{if}
 use Rattle.dump.specs.Hexadecimal.{isFrame, textOf}
 use Rattle.dump.specs.Lines.{keptOf}
-use Rattle.dump.specs.Stream.{wholeOn, restOn, lastOf, linesBy, texts, dump, Reading, done, read, joined}
+use Rattle.dump.specs.Stream.{wholeOn, restOn, lastOf, linesBy, texts, dump, Reading, inputEnded, readFailed, pieceRead, joined}
 use Rattle.dump.proofs.Cut.{whole-append, rest-append, texts-append, all-left, no-newline-taken, no-newline-left, whole-behind, rest-behind}
 use Rattle.dump.proofs.Called.{TextsPut, calls-put}
 
@@ -71,39 +71,40 @@ same-last number [] b (long h k) = absurd (omega arith)
 same-last number (x ∷ a) [] (long h k) = absurd (omega arith)
 same-last number (x ∷ a) (y ∷ b) (long h k) = ap (λ (l : List ℕ). l ++ []) (too-long number (x ∷ a) (y ∷ b) h k)
 
--- what `keep` keeps of what stands from a place on
-kept-behind : (xs : List ℕ) (from : ℕ) → keptOf xs from (length xs) ≡ take 2953 (drop from xs)
+-- what is kept of a line that has not ended is its beginning
+kept-behind : (xs : List ℕ) (from : ℕ) → keptOf xs from ≡ take 2953 (drop from xs)
 unfolding keptOf
-kept-behind xs from = rw (le-ltb (length xs) (length xs) (omega arith), take-all (length xs - from) (drop from xs) (omega (arith, length-drop from xs))) refl
+kept-behind xs from = refl
 
 -- the lines of bytes behind the beginning of a line
-lines-behind : (k p : List ℕ) → wholeOn [] k ≡ [] → linesBy true (k ++ p) ≡ wholeOn k p ++ lastOf (restOn k p)
-lines-behind k p e = rw (whole-behind k p e, rest-behind k p e) refl
+lines-behind : (ended : Bool) (k p : List ℕ) → wholeOn [] k ≡ [] → linesBy ended (k ++ p) ≡ wholeOn k p ++ if ended (lastOf (restOn k p)) []
+lines-behind ended k p e = rw (whole-behind k p e, rest-behind k p e) refl
 
-lines-in-two : (k p q : List ℕ) → wholeOn [] k ≡ [] → linesBy true (k ++ (p ++ q)) ≡ wholeOn k p ++ linesBy true (restOn k p ++ q)
-lines-in-two k p q e =
-    lines-behind k (p ++ q) e
-    ∙ rw (whole-append k p q, rest-append k p q, lines-behind (restOn k p) q (no-newline-left k p e)) (append-assoc (wholeOn k p) (wholeOn (restOn k p) q) (lastOf (restOn (restOn k p) q)))
+lines-in-two : (ended : Bool) (k p q : List ℕ) → wholeOn [] k ≡ [] → linesBy ended (k ++ (p ++ q)) ≡ wholeOn k p ++ linesBy ended (restOn k p ++ q)
+lines-in-two ended k p q e =
+    lines-behind ended k (p ++ q) e
+    ∙ rw (whole-append k p q, rest-append k p q, lines-behind ended (restOn k p) q (no-newline-left k p e)) (append-assoc (wholeOn k p) (wholeOn (restOn k p) q) (if ended (lastOf (restOn (restOn k p) q)) []))
 
 -- a reading from where some of a line is kept, whose true beginning no end can tell from it
-reading-on : {kept : List ℕ} {number : ℕ} {pieces : List (List ℕ)} {text : List ℕ} (begun : List ℕ) → Reading kept number pieces text
-    → Same kept begun → wholeOn [] kept ≡ [] → wholeOn [] begun ≡ [] → text ≡ texts number (linesBy true (begun ++ joined pieces))
-reading-on begun (done {kept} {text} {number} {last} {count} c) s k b =
+reading-on : {ended : Bool} {kept : List ℕ} {number : ℕ} {pieces : List (List ℕ)} {text : List ℕ} (begun : List ℕ) → Reading ended kept number pieces text
+    → Same kept begun → wholeOn [] kept ≡ [] → wholeOn [] begun ≡ [] → text ≡ texts number (linesBy ended (begun ++ joined pieces))
+reading-on begun (inputEnded {kept} {text} {number} {last} {count} c) s k b =
     calls-put c .put ∙ rw (k, all-left [] kept k, append-nil begun, b, all-left [] begun b) (same-last number kept begun s)
-reading-on begun (read {kept} {piece} {text} {more} {pieces} {number} {last} {count} c r) s k b =
+reading-on begun (readFailed {kept} {number}) s k b = rw (append-nil begun, b) refl
+reading-on begun (pieceRead {ended} {kept} {piece} {text} {more} {pieces} {number} {last} {count} c r) s k b =
     let w : List (List ℕ) = wholeOn begun piece in
     let t : TextsPut (kept ++ piece) false 0 number text last count = calls-put c in
     let l : linesBy false (kept ++ piece) ≡ wholeOn kept piece = append-nil (wholeOn [] (kept ++ piece)) ∙ whole-behind kept piece k in
     let p : text ≡ texts number w = t .put ∙ ap (texts number) l ∙ same-whole number piece kept begun s in
     let n : count ≡ number + length w = t .counted ∙ ap (λ (m : List (List ℕ)). number + length m) l ∙ ap (λ (m : ℕ). number + m) (same-count piece kept begun) in
-    let h : keptOf (kept ++ piece) last (length (kept ++ piece)) ≡ take 2953 (restOn kept piece) = kept-behind (kept ++ piece) last ∙ ap (take 2953) (t .rest refl ∙ rest-behind kept piece k) in
-    let i : more ≡ texts count (linesBy true (restOn begun piece ++ joined pieces)) =
+    let h : keptOf (kept ++ piece) last ≡ take 2953 (restOn kept piece) = kept-behind (kept ++ piece) last ∙ ap (take 2953) (t .rest refl ∙ rest-behind kept piece k) in
+    let i : more ≡ texts count (linesBy ended (restOn begun piece ++ joined pieces)) =
     reading-on (restOn begun piece) r (rw h (same-cut (restOn kept piece) (restOn begun piece) (same-rest piece kept begun s)))
     (rw h (no-newline-taken 2953 (restOn kept piece) (no-newline-left kept piece k))) (no-newline-left begun piece b)
     in
-    rw (p, i, n, ← texts-append number w (linesBy true (restOn begun piece ++ joined pieces)), ← lines-in-two begun piece (joined pieces) b) refl
+    rw (p, i, n, ← texts-append number w (linesBy ended (restOn begun piece ++ joined pieces)), ← lines-in-two ended begun piece (joined pieces) b) refl
 
--- however the input came in pieces, its text is that of the whole
-pub streamed : {pieces : List (List ℕ)} {text : List ℕ} → Reading [] 1 pieces text → text ≡ dump (joined pieces)
+-- however the input came in pieces, its text is that of the whole; and where a read failed, that of what came before, without the line that it cut
+pub streamed : {ended : Bool} {pieces : List (List ℕ)} {text : List ℕ} → Reading ended [] 1 pieces text → text ≡ dump ended (joined pieces)
 unfolding dump
 streamed r = reading-on [] r (same refl) refl refl

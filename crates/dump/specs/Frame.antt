@@ -11,13 +11,14 @@ use Rattle.headers.specs.Header.{Kind, request, simple, complex, segment, Field
 use Rattle.headers.specs.Reading.{headerFrom}
 use Rattle.walk.specs.Walk.{Seen, Walk, walkFrom}
 use Rattle.dump.specs.Text.{decimal, line}
+use Rattle.dump.specs.Letters.{requestWord, simpleWord, complexWord, segmentWord, applicationWord, contextWord, openWord, closeWord, okWord, refusedWord}
 
--- "request", "simple", "complex", "segment"
+-- the word of each kind
 abbrev pub kindWord : Kind → List ℕ
-kindWord request = 114 ∷ 101 ∷ 113 ∷ 117 ∷ 101 ∷ 115 ∷ 116 ∷ []
-kindWord simple = 115 ∷ 105 ∷ 109 ∷ 112 ∷ 108 ∷ 101 ∷ []
-kindWord complex = 99 ∷ 111 ∷ 109 ∷ 112 ∷ 108 ∷ 101 ∷ 120 ∷ []
-kindWord segment = 115 ∷ 101 ∷ 103 ∷ 109 ∷ 101 ∷ 110 ∷ 116 ∷ []
+kindWord request = requestWord
+kindWord simple = simpleWord
+kindWord complex = complexWord
+kindWord segment = segmentWord
 
 -- the fields of a header, in order
 abbrev pub fieldWords : List FieldValue → List (List ℕ)
@@ -33,12 +34,12 @@ headerWords h = kindWord (h .kind) ∷ fieldWords (h .fields)
 unfoldable pub headerLine : ℕ → Header → List ℕ
 headerLine frame h = line (decimal frame ∷ headerWords h)
 
--- "application", "context", "open" or "close", the tag's number, and its value, which an opening and a closing do not have
+-- the word of its class, or that it opens or closes a block, the tag's number, and its value, which an opening and a closing do not have
 abbrev pub wordsBy : Number → ℕ → List (List ℕ)
-wordsBy (application n) value = (97 ∷ 112 ∷ 112 ∷ 108 ∷ 105 ∷ 99 ∷ 97 ∷ 116 ∷ 105 ∷ 111 ∷ 110 ∷ []) ∷ decimal n ∷ decimal value ∷ []
-wordsBy (context n) value = (99 ∷ 111 ∷ 110 ∷ 116 ∷ 101 ∷ 120 ∷ 116 ∷ []) ∷ decimal n ∷ decimal value ∷ []
-wordsBy (opening n) value = (111 ∷ 112 ∷ 101 ∷ 110 ∷ []) ∷ decimal n ∷ []
-wordsBy (closing n) value = (99 ∷ 108 ∷ 111 ∷ 115 ∷ 101 ∷ []) ∷ decimal n ∷ []
+wordsBy (application n) value = applicationWord ∷ decimal n ∷ decimal value ∷ []
+wordsBy (context n) value = contextWord ∷ decimal n ∷ decimal value ∷ []
+wordsBy (opening n) value = openWord ∷ decimal n ∷ []
+wordsBy (closing n) value = closeWord ∷ decimal n ∷ []
 
 abbrev pub tagWords : Tag → List (List ℕ)
 tagWords t = wordsBy (t .number) (t .value)
@@ -53,11 +54,11 @@ tagLines frame (s ∷ ss) = tagLine frame s ++ tagLines frame ss
 
 -- "ok" and how many tags
 unfoldable pub okLine : ℕ → ℕ → List ℕ
-okLine frame tags = line (decimal frame ∷ (111 ∷ 107 ∷ []) ∷ decimal tags ∷ [])
+okLine frame tags = line (decimal frame ∷ okWord ∷ decimal tags ∷ [])
 
 -- "refused" and the refusal's number
 unfoldable pub refusedLine : ℕ → ℕ → List ℕ
-refusedLine frame refusal = line (decimal frame ∷ (114 ∷ 101 ∷ 102 ∷ 117 ∷ 115 ∷ 101 ∷ 100 ∷ []) ∷ decimal refusal ∷ [])
+refusedLine frame refusal = line (decimal frame ∷ refusedWord ∷ decimal refusal ∷ [])
 
 abbrev pub outcomeLine : ℕ → ℕ → Outcome → List ℕ
 outcomeLine frame tags passed = okLine frame tags

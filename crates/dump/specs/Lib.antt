@@ -1,3 +1,4 @@
+pub mod Letters
 pub mod Text
 pub mod Frame
 pub mod Open

@@ -9,7 +9,7 @@ use lib.ListN.{length, take, drop}
 use Rattle.types.specs.Choice.{if}
 use Rattle.types.specs.Refusal.{amount}
 use Rattle.dump.specs.Hexadecimal.{textOf}
-use Rattle.dump.specs.Lines.{put, none, refused, left, putFrom, keptOf}
+use Rattle.dump.specs.Lines.{textPut, noneEnds, notPut, lineLeft, putFrom, keptOf}
 
 -- the lines that a newline ends, where some of the first stands before the bytes already
 abbrev pub wholeOn : List ℕ → List ℕ → List (List ℕ)
@@ -35,28 +35,31 @@ abbrev pub texts : ℕ → List (List ℕ) → List ℕ
 texts number [] = []
 texts number (l ∷ ls) = textOf number l ++ texts (number + 1) ls
 
--- the text of a whole input: its lines are numbered from 1
-unfoldable pub dump : List ℕ → List ℕ
-dump input = texts 1 (linesBy true input)
+-- the text of what was read, its lines numbered from 1: of a whole input, or of one that a failed read cuts, where the line that it cuts has no text
+unfoldable pub dump : Bool → List ℕ → List ℕ
+dump ended input = texts 1 (linesBy ended input)
 
--- calls of `put_line` over what was read, from a place on and with the number of the line there, until no line ends:
+-- calls of `put_line` over what was read, from a place on and with the number of the line there, until nothing is left or no line ends:
 -- the text that they put, the place that they come to, and the number of the line there.
 -- The buffer that the text is put into may be another one at each call; a call refused for want of room is made again.
-pub data Calls (xs : List ℕ) (ended : Bool) : ℕ → ℕ → List ℕ → ℕ → ℕ → Type 0 where
-  stop : {from number : ℕ} (out : List ℕ) (place : ℕ) → left none out ≡ putFrom ended number xs from out place
+pub data Calls (xs : List ℕ) (ended : Bool) : (from number : ℕ) (text : List ℕ) (last count : ℕ) → Type 0 where
+  nothingLeft : {number : ℕ} → Calls xs ended (length xs) number [] (length xs) number
+  noLineEnds : {from number : ℕ} (out : List ℕ) (place : ℕ) → lineLeft noneEnds out ≡ putFrom ended number xs from out place
       → Calls xs ended from number [] from number
-  room : {from number last count : ℕ} {text : List ℕ} (out : List ℕ) (place : ℕ) → left (refused 13 (amount 86016)) out ≡ putFrom ended number xs from out place
+  noRoom : {from number last count : ℕ} {text : List ℕ} (out : List ℕ) (place : ℕ) → lineLeft (notPut 13 (amount 86016)) out ≡ putFrom ended number xs from out place
       → Calls xs ended from number text last count → Calls xs ended from number text last count
-  next : {from number last count : ℕ} {text : List ℕ} (out out′ : List ℕ) (place to after : ℕ) → left (put to after) out′ ≡ putFrom ended number xs from out place
+  oneLine : {from number last count : ℕ} {text : List ℕ} (out out′ : List ℕ) (place to after : ℕ) → lineLeft (textPut to after) out′ ≡ putFrom ended number xs from out place
       → Calls xs ended to (number + 1) text last count → Calls xs ended from number (take (after - place) (drop place out′) ++ text) last count
 
--- a reading of pieces: behind what is kept comes a piece, the lines that end are put, and `keep` keeps what is left; at the end of the input the last line is put
-pub data Reading : List ℕ → ℕ → List (List ℕ) → List ℕ → Type 0 where
-  done : {kept text : List ℕ} {number last count : ℕ} → Calls kept true 0 number text last count
-      → Reading kept number [] text
-  read : {kept piece text more : List ℕ} {pieces : List (List ℕ)} {number last count : ℕ} → Calls (kept ++ piece) false 0 number text last count
-      → Reading (keptOf (kept ++ piece) last (length (kept ++ piece))) count pieces more
-      → Reading kept number (piece ∷ pieces) (text ++ more)
+-- a reading of pieces: behind what is kept comes a piece, the lines that end are put, and `keep` keeps what is left;
+-- where the input has ended the last line is put, and where a read fails it is not
+pub data Reading : (ended : Bool) (kept : List ℕ) (number : ℕ) (pieces : List (List ℕ)) (text : List ℕ) → Type 0 where
+  inputEnded : {kept text : List ℕ} {number last count : ℕ} → Calls kept true 0 number text last count
+      → Reading true kept number [] text
+  readFailed : {kept : List ℕ} {number : ℕ} → Reading false kept number [] []
+  pieceRead : {ended : Bool} {kept piece text more : List ℕ} {pieces : List (List ℕ)} {number last count : ℕ} → Calls (kept ++ piece) false 0 number text last count
+      → Reading ended (keptOf (kept ++ piece) last) count pieces more
+      → Reading ended kept number (piece ∷ pieces) (text ++ more)
 
 -- all pieces
 abbrev pub joined : List (List ℕ) → List ℕ

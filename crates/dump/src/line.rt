@@ -5,7 +5,7 @@ ghost use lib.ListN.{length, drop};
 ghost use Rattle.types.specs.Writing.{over};
 ghost use Rattle.dump.specs.Text.{Wrote};
 ghost use Rattle.dump.specs.Hexadecimal.{textBy};
-ghost use Rattle.dump.specs.Lines.{upTo, endFrom, paperEnd, putFrom, paperPut, left, frameAfter, keptOf};
+ghost use Rattle.dump.specs.Lines.{untilNewline, endFrom, paperEnd, putFrom, paperPut, lineLeft, frameAfter, keptOf};
 use crate::frame::put_frame;
 use crate::frame::put_refused;
 use crate::hexadecimal::MOST_BYTES;
@@ -44,8 +44,8 @@ pub fn put_line(
     out: &mut [u8],
     place: usize,
 ) -> LinePut
-    ensures { λ r. ⌜ left (paperPut r) (now (out .exit)) ≡ putFrom ended number (now (buf .entry)) from (now (out .entry)) place ⌝ }
-    ensures { λ r. ⌜ now (frame .exit) ≡ frameAfter (paperPut r) (upTo (drop from (now (buf .entry)))) (now (frame .entry)) ⌝ }
+    ensures { λ r. ⌜ lineLeft (paperPut r) (now (out .exit)) ≡ putFrom ended number (now (buf .entry)) from (now (out .entry)) place ⌝ }
+    ensures { λ r. ⌜ now (frame .exit) ≡ frameAfter (paperPut r) (untilNewline (drop from (now (buf .entry)))) (now (frame .entry)) ⌝ }
 {
     if buf.len() < from {
         return LinePut::Refused(Refusal::PlacePastEnd(from));
@@ -71,7 +71,7 @@ pub fn put_line(
 // Where the line that begins at a place ends, of which no byte up to the end of its digits is a newline.
 fn line_end(buf: &[u8], from: usize, ended: bool, digits: usize) -> LineEnd
     requires { ⌜ (from ≤ digits) × (digits ≤ length (now buf)) ⌝ }
-    requires { ⌜ from + length (upTo (drop from (now buf))) ≡ digits + length (upTo (drop digits (now buf))) ⌝ }
+    requires { ⌜ from + length (untilNewline (drop from (now buf))) ≡ digits + length (untilNewline (drop digits (now buf))) ⌝ }
     ensures { λ r. ⌜ paperEnd r ≡ endFrom ended (now (buf .entry)) from ⌝ }
 {
     let mut at = digits;
@@ -106,18 +106,15 @@ fn put_text(out: &mut [u8], at: usize, number: u64, frame: &[u8], good: bool) ->
     }
 }
 
-// Moves the bytes from one place up to another to the buffer's start, but no more than tell that a line has too many digits, and answers how many it moved.
-pub fn keep(buf: &mut [u8], from: usize, end: usize) -> usize
-    ensures { λ r. ⌜ r ≡ length (keptOf (now (buf .entry)) from end) ⌝ }
-    ensures { λ r. ⌜ now (buf .exit) ≡ over (now (buf .entry)) 0 (keptOf (now (buf .entry)) from end) ⌝ }
+// Moves the bytes from a place on to the buffer's start, but no more than tell that a line has too many digits, and answers how many it moved.
+pub fn keep(buf: &mut [u8], from: usize) -> usize
+    ensures { λ r. ⌜ r ≡ length (keptOf (now (buf .entry)) from) ⌝ }
+    ensures { λ r. ⌜ now (buf .exit) ≡ over (now (buf .entry)) 0 (keptOf (now (buf .entry)) from) ⌝ }
 {
-    if buf.len() < end {
+    if buf.len() < from {
         return 0;
     }
-    if end < from {
-        return 0;
-    }
-    let count = at_most(end - from, MOST_KEPT);
+    let count = at_most(buf.len() - from, MOST_KEPT);
     let mut moved = 0;
     while moved < count {
         buf[moved] = buf[from + moved];

@@ -9,10 +9,10 @@ use Rattle.apdu_dump.proofs.run.Statement.{statement}
 use Rattle.apdu_dump.proofs.run.Tie as tie
 
 abbrev Inv-loop : tie.InvT-loop
-Inv-loop buf₀ frame₀ out₀ kept₀ number₀ waiting₀ reads₀ buf frame out kept number waiting reads = (length buf ≡ length buf₀) × (length out ≡ length out₀) × (kept ≤ 2953) × (waiting ≤ length out) × (number + reads * 65536 ≤ 4611686018427387905)
+Inv-loop buf₀ frame₀ out₀ kept₀ number₀ reads₀ buf frame out kept number reads = (length buf ≡ length buf₀) × (length out ≡ length out₀) × (kept ≤ 2953) × (number + reads * 65536 ≤ 4611686018427387905)
 
 abbrev μ-loop : tie.MeasureT-loop
-μ-loop buf₀ frame₀ out₀ kept₀ number₀ waiting₀ reads₀ buf frame out kept number waiting reads = reads
+μ-loop buf₀ frame₀ out₀ kept₀ number₀ reads₀ buf frame out kept number reads = reads
 
 loop-holds : tie.Need-loop-holds Inv-loop μ-loop
 loop-holds c = search needs
@@ -30,7 +30,7 @@ loop-less : tie.Need-loop-less Inv-loop μ-loop
 loop-less c = search needs
 
 loop-again : tie.Need-loop-again Inv-loop μ-loop
-loop-again c = let g = rw (c .before .bytes .given .1) at (c .before .before .before .before .before .before .before .take-turn .ensures) in (omega arith, omega arith, omega (arith, g .0), omega (arith, g .2), omega (arith, g .1))
+loop-again c = let g = rw (c .before .bytes .given .1) at (c .before .before .before .before .before .before .before .take-turn .ensures) in (omega arith, omega arith, omega (arith, g .0), omega (arith, g .1))
 
 enum-told : tie.Need-enum-told Inv-loop μ-loop
 enum-told c = search needs

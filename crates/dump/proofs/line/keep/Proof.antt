@@ -5,21 +5,21 @@ use native.Mathlib.Omega.{arith}
 use Prim.Native.Nat.{_-_, _≤_}
 use mathlib.Core.Path.{_≡_, refl}
 use lib.ListN.{length, take, drop, length-set}
-use Rattle.dump.proofs.Moved.{one-more-moved, rest-unmoved, kept-all, none-kept-past-the-end, none-kept-backwards}
+use Rattle.dump.proofs.Moved.{one-more-moved, rest-unmoved, kept-all, none-kept-past-the-end}
 use Rattle.dump.proofs.line.keep.Statement.{statement}
 use Rattle.dump.proofs.line.keep.Tie as tie
 
 abbrev Inv-loop : tie.InvT-loop
-Inv-loop buf₀ from end count moved₀ buf moved = (moved ≤ count) × (length buf ≡ length buf₀) × (take moved buf ≡ take moved (drop from buf₀)) × (drop moved buf ≡ drop moved buf₀)
+Inv-loop buf₀ from count moved₀ buf moved = (moved ≤ count) × (length buf ≡ length buf₀) × (take moved buf ≡ take moved (drop from buf₀)) × (drop moved buf ≡ drop moved buf₀)
 
 abbrev μ-loop : tie.MeasureT-loop
-μ-loop buf₀ from end count moved₀ buf moved = count - moved
+μ-loop buf₀ from count moved₀ buf moved = count - moved
 
 returns : tie.Need-returns Inv-loop μ-loop
-returns c = let a = c .before .before .args in none-kept-past-the-end (a .buf .now) (a .from) (a .end) (omega arith)
+returns c = let a = c .before .before .args in none-kept-past-the-end (a .buf .now) (a .from) (omega arith)
 
-returns-2 : tie.Need-returns-2 Inv-loop μ-loop
-returns-2 c = let a = c .before .before .before .args in none-kept-backwards (a .buf .now) (a .from) (a .end) (omega arith) (omega arith)
+sub-at-most : tie.Need-sub-at-most Inv-loop μ-loop
+sub-at-most c = search needs
 
 at-most-requires : tie.Need-at-most-requires Inv-loop μ-loop
 at-most-requires c κs = search needs
@@ -43,13 +43,13 @@ loop-less : tie.Need-loop-less Inv-loop μ-loop
 loop-less c = search needs
 
 loop-again : tie.Need-loop-again Inv-loop μ-loop
-loop-again c = let a = c .before .before .before .before .before .before .before .args in let l = c .before .before .loop in (omega arith, simp length-set (omega arith), one-more-moved (a .buf .now) (l .buf) (a .from) (l .moved) (l .inv .2) (l .inv .3) (omega arith) (omega arith), rest-unmoved (a .buf .now) (l .buf) (a .from) (l .moved) (l .inv .3))
+loop-again c = let a = c .before .before .before .before .before .before .args in let l = c .before .before .loop in (omega arith, simp length-set (omega arith), one-more-moved (a .buf .now) (l .buf) (a .from) (l .moved) (l .inv .2) (l .inv .3) (omega arith) (omega arith), rest-unmoved (a .buf .now) (l .buf) (a .from) (l .moved) (l .inv .3))
 
 same-length : tie.Need-same-length Inv-loop μ-loop
 same-length c = search needs
 
-returns-3 : tie.Need-returns-3 Inv-loop μ-loop
-returns-3 c = let a = c .before .before .before .before .before .before .args in let l = c .before .loop in kept-all (a .buf .now) (l .buf) (a .from) (a .end) (c .before .before .at-most .result) (l .moved) (omega arith) (omega arith) (c .before .before .at-most .ensures .2) (omega arith) (l .inv .2) (l .inv .3)
+returns-2 : tie.Need-returns-2 Inv-loop μ-loop
+returns-2 c = let a = c .before .before .before .before .before .args in let l = c .before .loop in kept-all (a .buf .now) (l .buf) (a .from) (c .before .before .at-most .result) (l .moved) (omega arith) (c .before .before .at-most .ensures .2) (omega arith) (l .inv .2) (l .inv .3)
 
 pub keep-spec : {M : Type 1} → statement M
 keep-spec =
@@ -58,7 +58,7 @@ keep-spec =
     Inv-loop
     μ-loop
     returns
-    returns-2
+    sub-at-most
     at-most-requires
     loop-holds
     add-buf
@@ -68,4 +68,4 @@ keep-spec =
     loop-less
     loop-again
     same-length
-    returns-3)
+    returns-2)

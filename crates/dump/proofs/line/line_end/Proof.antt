@@ -8,13 +8,13 @@ use mathlib.Core.Path.{_≡_, refl, _∙_, ap}
 use mathlib.Core.List.{_∷_}
 use lib.ListN.{length, drop, getD}
 use borrow.Author.Tests.{ne-eqb, not-true, not-false}
-use Rattle.dump.specs.Lines.{upTo}
+use Rattle.dump.specs.Lines.{untilNewline}
 use Rattle.dump.proofs.Ends.{line-step, ends-by-newline, has-not-ended, ends-with-input, nothing-left}
 use Rattle.dump.proofs.line.line_end.Statement.{statement}
 use Rattle.dump.proofs.line.line_end.Tie as tie
 
 abbrev Inv-loop : tie.InvT-loop
-Inv-loop buf from ended digits at₀ at = (from ≤ at) × (at ≤ length buf) × (from + length (upTo (drop from buf)) ≡ at + length (upTo (drop at buf)))
+Inv-loop buf from ended digits at₀ at = (from ≤ at) × (at ≤ length buf) × (from + length (untilNewline (drop from buf)) ≡ at + length (untilNewline (drop at buf)))
 
 abbrev μ-loop : tie.MeasureT-loop
 μ-loop buf from ended digits at₀ at = length buf - at
@@ -38,7 +38,7 @@ loop-less : tie.Need-loop-less Inv-loop μ-loop
 loop-less c = search needs
 
 loop-again : tie.Need-loop-again Inv-loop μ-loop
-loop-again c = let b = c .before .before .before .before .args .buf .now in let i = c .before .before .before .loop .at in let u : upTo (drop i b) ≡ getD b i 0 ∷ upTo (drop (i + 1) b) = line-step b i (omega arith) ∙ rw (ne-eqb _ _ (c .if1 .left), add-one) refl in (omega arith, omega arith, omega (arith, ap length u))
+loop-again c = let b = c .before .before .before .before .args .buf .now in let i = c .before .before .before .loop .at in let u : untilNewline (drop i b) ≡ getD b i 0 ∷ untilNewline (drop (i + 1) b) = line-step b i (omega arith) ∙ rw (ne-eqb _ _ (c .if1 .left), add-one) refl in (omega arith, omega arith, omega (arith, ap length u))
 
 returns-2 : tie.Need-returns-2 Inv-loop μ-loop
 returns-2 c = let a = c .before .before .before .args in let l = c .before .before .loop in has-not-ended (a .buf .now) (a .from) (l .at) (omega arith) (l .inv .2) (a .ended) (not-true (a .ended) (c .if2 .taken))

@@ -8,7 +8,7 @@ use lib.ListN.{length, take}
 use lib.Dec.{eqb}
 use Rattle.dump.specs.Text.{Wrote}
 use Rattle.dump.specs.Hexadecimal.{textBy}
-use Rattle.dump.specs.Lines.{ends, noLine, endFrom, paperEnd}
+use Rattle.dump.specs.Lines.{lineEnds, noLine, endFrom, paperEnd}
 use Rattle.dump.proofs.LineTexts.{from-past-end, place-past-end, no-room, no-line, line-put, ends-there, behind-digits, frame-of-line, text-of-line}
 use Rattle.dump.proofs.line.put_line.Statement.{statement}
 use Rattle.dump.proofs.line.put_line.Tie as tie
@@ -64,7 +64,7 @@ returns-4 c =
     let d = c .before .before .before .before .before .before .before .before .before .before .before .decode in
     let end : ℕ = c .before .before .before .before .before .before .end .given .0 .0 in
     let next : ℕ = c .before .before .before .before .before .before .end .given .0 .1 .0 in
-    let e : ends end next ≡ endFrom (a .ended) (a .buf .now) (a .from) = sym (ap paperEnd (c .before .before .before .before .before .before .end .given .1)) ∙ c .before .before .before .before .before .before .before .before .line-end .ensures in
+    let e : lineEnds end next ≡ endFrom (a .ended) (a .buf .now) (a .from) = sym (ap paperEnd (c .before .before .before .before .before .before .end .given .1)) ∙ c .before .before .before .before .before .before .before .before .line-end .ensures in
     let there = ends-there (a .ended) (a .buf .now) (a .from) end next (omega arith) e in
     let room : length (d .last .1 .1 .0) ≡ 1476 = omega (arith, c .before .before .before .before .before .before .before .before .before .bytes2 .given) in
     let digits : ℕ = a .from + d .result + d .result in
