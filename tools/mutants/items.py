@@ -41,8 +41,9 @@ class Source:
         return self.text[self.tokens[first].start : self.tokens[last].end]
 
     def joined(self, first, last):
-        """The text of tokens first..last without blanks, as a type is compared."""
-        return "".join(t.text + (" " if t.text == "mut" else "") for t in self.tokens[first : last + 1])
+        """The text of tokens first..last without blanks and lifetimes, as a type is compared."""
+        kept = [t for t in self.tokens[first : last + 1] if t.kind != "label"]
+        return "".join(t.text + (" " if t.text == "mut" else "") for t in kept).replace("<>", "")
 
 
 def declare(source, index, end, owner):
@@ -120,7 +121,7 @@ def enum(source, index, _owner):
 
 def struct(source, index, _owner):
     """Notes a struct's fields, and answers the index after it."""
-    opening = index + 1
+    opening = following(source, index, "{")
     source.structs[source.tokens[index].text] = fields_of(source, opening + 1, source.partners[opening] - 1)
     return source.partners[opening] + 1
 

@@ -5,16 +5,16 @@ use mathlib.Core.Path.{_≡_, refl, sym, ap, ap₂, _∙_, subst}
 use mathlib.Core.Logic.{_↔_}
 use mathlib.Core.List.{List}
 use native.Mathlib.Omega.{arith}
-use borrow.Author.Tests.{le-ltb}
 use lib.ListN.{length, take, drop}
 use Rattle.types.specs.Tag.{opening, tag}
 use Rattle.types.specs.Answer.{Answer, accepted, refused}
+use Rattle.numbers.specs.Reading.{partAt, sliceFrom, partOf}
+use Rattle.numbers.proofs.Parts.{part-given}
 use Rattle.tags.specs.Reading.{tagFrom}
 use Rattle.tags.proofs.Exactly.{tag-found, moves-on}
 use Rattle.bodies.specs.Item.{Item}
 use Rattle.bodies.specs.Body.{BodyAt}
 use Rattle.bodies.specs.Scan.{Body, body, Counted, handed, scanned, bodyOf, bodyFrom}
-use Rattle.bodies.specs.View.{viewOf}
 use Rattle.bodies.specs.Given.{given}
 use Rattle.bodies.proofs.Items.{part, ItemsRead}
 use Rattle.bodies.proofs.Scanned.{scan-hands, scan-says, Says, items-ahead}
@@ -81,20 +81,35 @@ module _ (xs : List ℕ) (place : ℕ) where
       placed-given xs allowance p (omega arith)
       ∙ handed-same refl (let z : next + length view - next ≡ length view = omega arith in z) refl refl refl
 
-  -- what is handed over, with any allowance, is a body, and its view is the bytes that `view` answers
-  pub view-is : (allowance start size n next count : ℕ) → bodyFrom allowance xs place ≡ handed start size n next count
-      → (items : List Item) × (b : BodyAt xs place n (viewOf start size xs) items) × (handed start size n next count ≡ given b)
-  unfolding viewOf
-  view-is allowance start size n next count e =
-      let y : Lies allowance xs place (body start size n) next count = subst (λ (r : Counted). LiesIf allowance xs place (r .answer) (r .tags)) e (answer-lies allowance xs place) in
-      let q = placed-body xs (y .placed) in
-      let inside : start + size ≤ length xs = omega (arith, y .sized, q .inside, q .view-ends, q .closer-ends) in
-      let same : viewOf start size xs ≡ part xs start (y .end) = rw (le-ltb (length xs) (start + size) inside) (ap (λ (j : ℕ). take j (drop start xs)) (y .sized)) in
-      let z : size ≡ length (part xs start (y .end)) = omega (arith, y .sized, q .view-ends) in
-      let w : next ≡ place + length (q .is .opener) + length (part xs start (y .end)) + length (q .is .closer) = omega (arith, q .opener-ends, q .view-ends, q .closer-ends) in
-      let c : handed start size n next count ≡ given (q .is) = handed-same (q .opener-ends) z refl w (y .count) in
-      let f = subst (λ (v : List ℕ). (b : BodyAt xs place n v (y .items)) × (handed start size n next count ≡ given b)) (sym same) (q .is, c) in
-      (y .items, f .0, f .1)
+  module _ (allowance start size n next count : ℕ) (e : bodyFrom allowance xs place ≡ handed start size n next count) where
+    lies : Lies allowance xs place (body start size n) next count
+    lies = subst (λ (r : Counted). LiesIf allowance xs place (r .answer) (r .tags)) e (answer-lies allowance xs place)
+
+    view-inside : start + size ≤ length xs
+    view-inside = let q = placed-body xs (lies .placed) in omega (arith, lies .sized, q .inside, q .view-ends, q .closer-ends)
+
+    buffer-small : length xs ≤ 65535
+    buffer-small = tag-found xs place (tag (opening n) 0) start (lies .placed .opened) .small
+
+    -- the call for the view's bytes, with any allowance of the body, is not refused
+    pub view-handed : sliceFrom size xs start ≡ accepted (partAt start size) (start + size)
+    view-handed = part-given size xs start buffer-small view-inside .0
+
+    -- and the view's length has 16 bits
+    pub view-short : size ≤ 65535
+    view-short = omega (arith, view-inside, buffer-small)
+
+    -- what is handed over, with any allowance, is a body, and its view is the bytes that that call answers
+    pub view-is : (items : List Item) × (b : BodyAt xs place n (partOf size xs start) items) × (handed start size n next count ≡ given b)
+    view-is =
+        let y : Lies allowance xs place (body start size n) next count = lies in
+        let q = placed-body xs (y .placed) in
+        let same : partOf size xs start ≡ part xs start (y .end) = part-given size xs start buffer-small view-inside .1 ∙ ap (λ (j : ℕ). take j (drop start xs)) (y .sized) in
+        let z : size ≡ length (part xs start (y .end)) = omega (arith, y .sized, q .view-ends) in
+        let w : next ≡ place + length (q .is .opener) + length (part xs start (y .end)) + length (q .is .closer) = omega (arith, q .opener-ends, q .view-ends, q .closer-ends) in
+        let c : handed start size n next count ≡ given (q .is) = handed-same (q .opener-ends) z refl w (y .count) in
+        let f = subst (λ (v : List ℕ). (b : BodyAt xs place n v (y .items)) × (handed start size n next count ≡ given b)) (sym same) (q .is, c) in
+        (y .items, f .0, f .1)
 
   -- there is never a second body: the number, the view and the items are the same
   pub one-body : length xs ≤ 65535 → {n n′ : ℕ} {view view′ : List ℕ} {items items′ : List Item} → BodyAt xs place n view items → BodyAt xs place n′ view′ items′ → (n ≡ n′) × (view ≡ view′) × (items ≡ items′)
@@ -113,4 +128,4 @@ module _ (xs : List ℕ) (place : ℕ) where
 pub exactly : (xs : List ℕ) (place allowance : ℕ) → length xs ≤ 65535 → length xs ≤ allowance → (start size n next count : ℕ)
     → (bodyFrom allowance xs place ≡ handed start size n next count) ↔ ((view : List ℕ) × (items : List Item) × (b : BodyAt xs place n view items) × (handed start size n next count ≡ given b))
 exactly xs place allowance small room start size n next count =
-    ((λ e. let y = view-is xs place allowance start size n next count e in (viewOf start size xs, y .0, y .1, y .2)), (λ y. body-given xs place small allowance room (y .2) ∙ sym (y .3)))
+    ((λ e. let y = view-is xs place allowance start size n next count e in (partOf size xs start, y .0, y .1, y .2)), (λ y. body-given xs place small allowance room (y .2) ∙ sym (y .3)))

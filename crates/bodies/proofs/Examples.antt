@@ -5,10 +5,9 @@ use mathlib.Core.List.{List, [], _∷_}
 use Rattle.types.specs.Tag.{application, context, opening, tag}
 use Rattle.types.specs.Refusal.{amount, tagFound}
 use Rattle.types.specs.Answer.{refused}
-use Rattle.numbers.specs.Reading.{byteFrom, sliceFrom, fixedFrom}
+use Rattle.numbers.specs.Reading.{byteFrom, sliceFrom, partOf, fixedFrom}
 use Rattle.tags.specs.Reading.{numberFrom, tagValueFrom, tagAfter, tagFrom, expectedFrom}
 use Rattle.bodies.specs.Scan.{Counted, counted, handed, unread, scanStepAfter, scanStepFrom, scanFrom, bodyFrom, bodyForFrom}
-use Rattle.bodies.specs.View.{viewOf}
 
 -- two items and a closing tag; an allowance that is too small; a Boolean, whose value is no length; a closing of another number;
 -- an opening without its closing; content that passes the end, with and without allowance left; no items; an allowance of 0; no opening; no bytes; a place past the end
@@ -34,6 +33,6 @@ answered =
     ∷ handed 1 2 3 4 2 ∷ unread 4 (tagFound (tag (opening 3) 0))
     ∷ unread 4 (tagFound (tag (context 16) 0)) ∷ []
 
-pub edges : (asked ≡ answered) × (viewOf 1 2 (0x3E ∷ 0x21 ∷ 0x07 ∷ 0x3F ∷ []) ≡ 0x21 ∷ 0x07 ∷ [])
-unfolding byteFrom sliceFrom fixedFrom numberFrom tagValueFrom tagAfter tagFrom expectedFrom scanStepAfter scanStepFrom scanFrom bodyFrom bodyForFrom viewOf
+pub edges : (asked ≡ answered) × (partOf 2 (0x3E ∷ 0x21 ∷ 0x07 ∷ 0x3F ∷ []) 1 ≡ 0x21 ∷ 0x07 ∷ [])
+unfolding byteFrom sliceFrom partOf fixedFrom numberFrom tagValueFrom tagAfter tagFrom expectedFrom scanStepAfter scanStepFrom scanFrom bodyFrom bodyForFrom
 edges = (refl, refl)

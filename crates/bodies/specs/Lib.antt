@@ -2,6 +2,5 @@ pub mod Item
 pub mod Plain
 pub mod Body
 pub mod Scan
-pub mod View
 pub mod Count
 pub mod Given

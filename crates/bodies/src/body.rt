@@ -2,7 +2,6 @@
 ghost use mathlib.Core.Path.{_≡_};
 ghost use Rattle.types.specs.Refusal.{table};
 ghost use Rattle.bodies.specs.Scan.{paperBody, unread, bodyFrom, bodyForFrom};
-ghost use Rattle.bodies.specs.View.{viewOf};
 use crate::scan::scan;
 use tags::TagRead;
 use types::Refusal;
@@ -56,18 +55,4 @@ fn unread(refusal: Refusal) -> BodyRead
     ensures { λ r. ⌜ paperBody r ≡ unread (table refusal .number) (table refusal .carries) ⌝ }
 {
     BodyRead::Refused { refusal, tags: 0 }
-}
-
-// The bytes of a view; empty where it does not lie inside the buffer.
-pub fn view(start: usize, len: usize, buf: &[u8]) -> &[u8]
-    ensures { λ r. ⌜ now r ≡ viewOf start len (now (buf .entry)) ⌝ }
-{
-    if buf.len() < start {
-        return &buf[0..0];
-    }
-    if buf.len() - start < len {
-        return &buf[0..0];
-    }
-    let end = start + len;
-    &buf[start..end]
 }

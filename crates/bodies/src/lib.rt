@@ -6,5 +6,6 @@ mod scan;
 pub use body::BodyRead;
 pub use body::get_tagged_body;
 pub use body::get_tagged_body_for_tag;
-pub use body::view;
 pub use item::content_length;
+pub use numbers::PartRead;
+pub use numbers::part;

@@ -6,6 +6,7 @@ pub mod Shortest
 pub mod Inside
 pub mod Over
 pub mod Found
+pub mod Parts
 pub mod Wrote
 pub mod Untouched
 pub mod Single

@@ -1,16 +1,19 @@
 -- No two answers of a reader are the same on paper, so each promise admits a single one.
 -- Assumes nothing.
-use mathlib.Core.Path.{_≡_, refl, ap}
+use mathlib.Core.Path.{_≡_, refl, ap, sym, _∙_}
 use Prim.Native.Nat.{ℕ}
+use mathlib.Core.List.{List}
 use lib.IntN.{ℤ}
+use denote.Ref.{now}
 use Rattle.types.specs.Refusal.{row}
 use Rattle.types.specs.Answer.{Answer, accepted, refused}
 use Rattle.types.proofs.Single.{told-apart, programRefusal, refusal-back}
-use Rattle.numbers.specs.Reading.{Part, paperByte, paperSlice, paperWord, paperUnsigned, paperSigned}
+use Rattle.numbers.specs.Reading.{Part, sliceFrom, partOf, paperByte, paperSlice, paperWord, paperUnsigned, paperSigned}
 use Rattle.numbers.specs.declared.reading.ByteRead.{ByteRead}
 use Rattle.numbers.specs.declared.reading.ByteRead.the-variants as b
 use Rattle.numbers.specs.declared.reading.SliceRead.{SliceRead}
 use Rattle.numbers.specs.declared.reading.SliceRead.the-variants as s
+use Rattle.numbers.specs.declared.reading.PartRead.{PartRead}
 use Rattle.numbers.specs.declared.reading.WordRead.{WordRead}
 use Rattle.numbers.specs.declared.reading.WordRead.the-variants as w
 use Rattle.numbers.specs.declared.reading.UnsignedRead.{UnsignedRead}
@@ -39,6 +42,14 @@ slice-back (s.Refused x) = ap s.Refused (refusal-back x)
 
 pub single-slice : (x y : SliceRead) → paperSlice x ≡ paperSlice y → x ≡ y
 single-slice = told-apart paperSlice slice slice-back
+
+-- what `part` promises of its answer
+abbrev pub Parted : ℕ → List ℕ → ℕ → PartRead → Type 0
+Parted n xs place r = (paperSlice (r .outcome) ≡ sliceFrom n xs place) × (now (r .bytes) ≡ partOf n xs place)
+
+-- it fixes where the part lies or the refusal, and the bytes
+pub single-part : (n : ℕ) (xs : List ℕ) (place : ℕ) (x y : PartRead) → Parted n xs place x → Parted n xs place y → (x .outcome ≡ y .outcome) × (now (x .bytes) ≡ now (y .bytes))
+single-part n xs place x y p q = (single-slice (x .outcome) (y .outcome) (p .0 ∙ sym (q .0)), p .1 ∙ sym (q .1))
 
 abbrev word : Answer ℕ → WordRead
 word (accepted x next) = w.Word x next

@@ -9,6 +9,7 @@ pub use integer::decode_unsigned;
 pub use integer::signed_length;
 pub use integer::unsigned_length;
 pub use reading::ByteRead;
+pub use reading::PartRead;
 pub use reading::SliceRead;
 pub use reading::UnsignedRead;
 pub use reading::WordRead;

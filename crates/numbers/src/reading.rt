@@ -1,4 +1,4 @@
-// Bytes read at a place: one, two, four or eight, a slice of a given length, and the part of the buffer itself.
+// Bytes read at a place: one, two, four or eight as a number, where a slice of a given length lies, and that part of the buffer.
 ghost use mathlib.Core.Path.{_≡_};
 ghost use Prim.Native.Nat.{_+_, _<_, _≤_};
 ghost use lib.ListN.{length, take, drop};
@@ -16,6 +16,12 @@ pub enum ByteRead {
 pub enum SliceRead {
     Slice { start: usize, len: u32, next: usize },
     Refused(Refusal),
+}
+
+// A part of a buffer: where it lies or its refusal, and its bytes, which are none with a refusal.
+pub struct PartRead<'a> {
+    pub outcome: SliceRead,
+    pub bytes: &'a [u8],
 }
 
 // A number of two or four bytes and the place after it.
@@ -67,8 +73,18 @@ pub fn read_slice(len: u32, buf: &[u8], place: usize) -> SliceRead
     }
 }
 
-// That part of the buffer; empty where `read_slice` refuses.
-pub fn part(len: u32, buf: &[u8], place: usize) -> &[u8]
+// The part of a buffer of a given length from a place on, refused as `read_slice` refuses it.
+pub fn part<'a>(len: u32, buf: &'a [u8], place: usize) -> PartRead<'a>
+    ensures { λ r. ⌜ (paperSlice (r .outcome) ≡ sliceFrom len (now (buf .entry)) place) × (now (r .bytes) ≡ partOf len (now (buf .entry)) place) ⌝ }
+{
+    PartRead {
+        outcome: read_slice(len, buf, place),
+        bytes: bytes_of(len, buf, place),
+    }
+}
+
+// The bytes of that part; none where `read_slice` refuses.
+fn bytes_of(len: u32, buf: &[u8], place: usize) -> &[u8]
     ensures { λ r. ⌜ now r ≡ partOf len (now (buf .entry)) place ⌝ }
 {
     match read_slice(len, buf, place) {

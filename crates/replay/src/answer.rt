@@ -5,15 +5,16 @@ use types::Refusal;
 use types::Tag;
 use types::TagNumber;
 
-// What of the buffer stands behind an answer's words.
+// What stands behind an answer's words.
 pub(crate) enum Shown {
     Nothing,
-    // The part of that length from a place on.
+    // What the call for the part of that length from a place on answers.
     Part(u32, usize),
+    // The buffer.
     All,
 }
 
-// An answer's words, of which the first `len` bytes count, and what of the buffer stands behind them.
+// An answer's words, of which the first `len` bytes count, and what stands behind them.
 pub(crate) struct Answer {
     pub words: [u8; 128],
     pub len: usize,
@@ -54,12 +55,16 @@ fn number_of(number: TagNumber) -> u8 {
 impl Answer {
     // An answer of these words.
     pub(crate) fn new(words: &[u8]) -> Answer {
-        let none = Answer {
+        Answer::of(Shown::Nothing).text(words)
+    }
+
+    // An answer of no words, with that behind it.
+    pub(crate) fn of(shown: Shown) -> Answer {
+        Answer {
             words: [0; 128],
             len: 0,
-            shown: Shown::Nothing,
-        };
-        none.text(words)
+            shown,
+        }
     }
 
     // The same, with text behind it.

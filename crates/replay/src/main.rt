@@ -7,6 +7,7 @@ mod bytes;
 mod header;
 mod line;
 mod number;
+mod part;
 mod read;
 mod reading;
 mod tag;

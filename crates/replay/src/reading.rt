@@ -29,7 +29,7 @@ pub(crate) fn answer_of(read: Read, buf: &[u8], place: usize) -> Answer {
         Read::Utf8 => utf8_from(buf, place),
         Read::Header => of_header(headers::decode(buf, place)),
         Read::Slice(len) => of_slice(numbers::read_slice(len, buf, place)),
-        Read::Part(len) => of_part(numbers::read_slice(len, buf, place)),
+        Read::Part(len) => Answer::of(Shown::Part(len, place)),
         Read::Unsigned(len) => of_unsigned(numbers::decode_unsigned(len, buf, place)),
         Read::Signed(len) => of_signed(numbers::decode_signed(len, buf, place)),
         Read::TagValue(value) => tag_value(value, tags::decode(buf, place)),
@@ -92,18 +92,6 @@ fn of_slice(read: SliceRead) -> Answer {
                 .number(len as u64)
                 .number(next as u64)
         }
-        SliceRead::Refused(refusal) => Answer::refused(refusal),
-    }
-}
-
-// The answer to a call that returns a part.
-fn of_part(read: SliceRead) -> Answer {
-    match read {
-        SliceRead::Slice {
-            start,
-            len,
-            next: _,
-        } => Answer::new(b"ok").showing(len as usize, Shown::Part(len, start)),
         SliceRead::Refused(refusal) => Answer::refused(refusal),
     }
 }
@@ -202,18 +190,18 @@ fn utf8_from(buf: &[u8], place: usize) -> Answer {
             start: _,
             len: _,
             next: _,
-        } => of_check(utf8::check(bodies::view(place, left(buf, place), buf))),
+        } => of_check(utf8::check(behind(buf, place))),
         SliceRead::Refused(refusal) => Answer::refused(refusal),
     }
 }
 
-// How many bytes there are from a place on.
-fn left(buf: &[u8], place: usize) -> usize {
-    if place < buf.len() {
-        buf.len() - place
-    } else {
-        0
+// The bytes from a place on; none past the end.
+fn behind(buf: &[u8], place: usize) -> &[u8] {
+    if buf.len() < place {
+        return &buf[0..0];
     }
+    let end = buf.len();
+    &buf[place..end]
 }
 
 // The answer to the check of a text.

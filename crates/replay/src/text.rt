@@ -2,6 +2,7 @@
 // the text is long enough for every answer.
 use crate::answer::Answer;
 use crate::answer::Shown;
+use crate::part::put_part;
 
 // Puts bytes.
 pub(crate) fn put(bytes: &[u8], text: &mut [u8], at: usize) -> usize {
@@ -29,7 +30,7 @@ fn digit(number: u8) -> u8 {
 }
 
 // Puts the two hexadecimal digits of each byte.
-fn put_digits(bytes: &[u8], text: &mut [u8], at: usize) -> usize {
+pub(crate) fn put_digits(bytes: &[u8], text: &mut [u8], at: usize) -> usize {
     if text.len() < at {
         return at;
     }
@@ -48,24 +49,29 @@ fn put_digits(bytes: &[u8], text: &mut [u8], at: usize) -> usize {
     end
 }
 
-// Puts what an answer shows of the buffer.
+// Puts what stands behind an answer's words.
 fn put_shown(shown: Shown, buf: &[u8], text: &mut [u8], at: usize) -> usize {
     match shown {
         Shown::Nothing => at,
-        Shown::Part(len, place) => put_digits(numbers::part(len, buf, place), text, at),
+        Shown::Part(len, place) => put_part(len, buf, place, text, at),
         Shown::All => put_digits(buf, text, at),
     }
 }
 
-// Puts an answer, with what it shows of the buffer.
-pub(crate) fn put_answer(answer: Answer, buf: &[u8], text: &mut [u8], at: usize) -> usize {
+// Puts an answer's words.
+pub(crate) fn put_words(answer: Answer, text: &mut [u8], at: usize) -> usize {
     let held = answer.words;
     let words: &[u8] = &held;
     let len = answer.len;
     if words.len() < len {
         return at;
     }
-    let behind = put(&words[0..len], text, at);
+    put(&words[0..len], text, at)
+}
+
+// Puts an answer, with what stands behind its words.
+pub(crate) fn put_answer(answer: Answer, buf: &[u8], text: &mut [u8], at: usize) -> usize {
     let shown = answer.shown;
+    let behind = put_words(answer, text, at);
     put_shown(shown, buf, text, behind)
 }
