@@ -38,5 +38,5 @@ abbrev pub OneByte : Header → Tag → Type 0
 OneByte h t = h .len ≡ 1 → (tagBytes t ≡ getD (h .bytes) 0 0 ∷ []) × (tagValueAllowed t ≡ true)
 
 -- what writing one byte answers and leaves, where so many bytes are to follow it
-unfoldable pub oneBefore : ℕ → ℕ → List ℕ → ℕ → Left
+unfoldable pub oneBefore : (byte content : ℕ) → List ℕ → (place : ℕ) → Left
 oneBefore b content xs place = settled (b ∷ []) xs place (writeAnswer 0 can (1 + content) xs place)

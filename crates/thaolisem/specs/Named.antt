@@ -21,7 +21,7 @@ use Rattle.thaolisem.specs.declared.header.HeaderNamed as program-header
 use Rattle.thaolisem.specs.declared.header.HeaderNamed.the-variants as h
 
 -- the write of what is named; where nothing is, 12, after 01's tests of the buffer, the lent content and the place
-abbrev pub namedTo : {A : Type 0} → ℕ → Option A → (A → List ℕ → ℕ → Left) → List ℕ → ℕ → Left
+abbrev pub namedTo : {A : Type 0} → (lent : ℕ) → Option A → (A → List ℕ → ℕ → Left) → List ℕ → (place : ℕ) → Left
 namedTo lent (some a) to xs place = to a xs place
 namedTo lent none to xs place = writing lent unwritable [] xs place
 
@@ -30,7 +30,7 @@ abbrev pub applicationNamed : ℕ → Option Number
 applicationNamed k = if (ltb 15 k) none (some (application k))
 
 -- a tag's class, 1 application, 2 context, 3 opening, 4 closing, and its number
-unfoldable pub numberNamed : ℕ → ℕ → Option Number
+unfoldable pub numberNamed : (class number : ℕ) → Option Number
 numberNamed class k =
     if (eqb class 1) (applicationNamed k)
     (if (eqb class 2) (some (context k))
@@ -38,28 +38,28 @@ numberNamed class k =
     (if (eqb class 4) (some (closing k))
     none)))
 
-unfoldable pub tagNamedTo : ℕ → ℕ → ℕ → List ℕ → ℕ → Left
+unfoldable pub tagNamedTo : (class number value : ℕ) → List ℕ → (place : ℕ) → Left
 tagNamedTo class k value xs place = namedTo 0 (numberNamed class k) (λ x. tagTo (tag x value)) xs place
 
 -- what an integer is written under: 1 the application tag of its kind, 2 a context tag
-unfoldable pub underNamed : ℕ → ℕ → ℕ → Option Number
+unfoldable pub underNamed : (kind class number : ℕ) → Option Number
 underNamed kind class k =
     if (eqb class 1) (some (application kind))
     (if (eqb class 2) (some (context k))
     none)
 
-unfoldable pub integerNamedTo : ℕ → ℕ → ℕ → List ℕ → List ℕ → ℕ → Left
+unfoldable pub integerNamedTo : (kind class number : ℕ) → (content : List ℕ) → List ℕ → (place : ℕ) → Left
 integerNamedTo kind class k content xs place = namedTo 0 (underNamed kind class k) (λ x. itemTo x content) xs place
 
 -- a boolean: 0 or 1
 unfoldable pub booleanNamed : ℕ → Option Bool
 booleanNamed b = if (eqb b 0) (some false) (if (eqb b 1) (some true) none)
 
-unfoldable pub booleanNamedTo : ℕ → ℕ → List ℕ → ℕ → Left
+unfoldable pub booleanNamedTo : (number boolean : ℕ) → List ℕ → (place : ℕ) → Left
 booleanNamedTo k b xs place = namedTo 0 (booleanNamed b) (λ x. itemTo (context k) (booleanByte x ∷ [])) xs place
 
 -- a header: its PDU type and its fields in their order; a field that it has not is not read
-unfoldable pub headerNamed : ℕ → ℕ → ℕ → ℕ → ℕ → Option Header
+unfoldable pub headerNamed : (kind first second third fourth : ℕ) → Option Header
 headerNamed kind a b c d =
     if (eqb kind 0) (some (header request (nibbles a b ∷ number c ∷ choice d ∷ [])))
     (if (eqb kind 2) (some (header simple (number a ∷ choice b ∷ [])))
@@ -67,7 +67,7 @@ headerNamed kind a b c d =
     (if (eqb kind 4) (some (header segment (number a ∷ number b ∷ number c ∷ [])))
     none)))
 
-unfoldable pub headerNamedTo : ℕ → ℕ → ℕ → ℕ → ℕ → List ℕ → ℕ → Left
+unfoldable pub headerNamedTo : (kind first second third fourth : ℕ) → List ℕ → (place : ℕ) → Left
 headerNamedTo kind a b c d xs place = namedTo 0 (headerNamed kind a b c d) headerTo xs place
 
 -- the program's enums for what is named

@@ -17,16 +17,16 @@ use Rattle.thaolisem.specs.declared.named.ValueNamed as program
 use Rattle.thaolisem.specs.declared.named.ValueNamed.the-variants as v
 
 -- what is named where a number is at most so large
-abbrev pub ifAtMost : ℕ → ℕ → Option Value → Option Value
+abbrev pub ifAtMost : (most number : ℕ) → Option Value → Option Value
 ifAtMost most x named = if (ltb most x) none named
 
-unfoldable pub dateNamed : ℕ → ℕ → ℕ → ℕ → Option Value
+unfoldable pub dateNamed : (year month day weekday : ℕ) → Option Value
 dateNamed y m d w = ifAtMost 65535 y (ifAtMost 255 m (ifAtMost 255 d (ifAtMost 255 w (some (onDate (date y m d w))))))
 
-unfoldable pub timeNamed : ℕ → ℕ → ℕ → ℕ → Option Value
+unfoldable pub timeNamed : (hour minute second hundredths : ℕ) → Option Value
 timeNamed h m s c = ifAtMost 255 h (ifAtMost 255 m (ifAtMost 255 s (ifAtMost 255 c (some (atTime (time h m s c))))))
 
-unfoldable pub objectIdNamed : ℕ → ℕ → Option Value
+unfoldable pub objectIdNamed : (type instance : ℕ) → Option Value
 objectIdNamed k i = ifAtMost 65535 k (ifAtMost 4294967295 i (some (objectId k i)))
 
 -- text, octets and bits have their content from the lent slice, and bits their unused count besides; a signed integer is named by its two's complement in 64 bits
@@ -41,7 +41,7 @@ contentNamed case a =
     none)))))
 
 -- a float is named by its bits
-unfoldable pub valueNamed : ℕ → ℕ → ℕ → ℕ → ℕ → Option Value
+unfoldable pub valueNamed : (case first second third fourth : ℕ) → Option Value
 valueNamed case a b c d =
     if (eqb case 1) (ifAtMost 1 a (some (boolean (eqb a 1))))
     (if (eqb case 2) (ifAtMost 4294967295 a (some (real (ofBits binary32 a))))
@@ -52,7 +52,7 @@ valueNamed case a b c d =
     (contentNamed case a))))))
 
 -- what writing it at a place of a buffer answers and leaves
-unfoldable pub valueNamedTo : ℕ → ℕ → ℕ → ℕ → ℕ → List ℕ → List ℕ → ℕ → Left
+unfoldable pub valueNamedTo : (case first second third fourth : ℕ) → (lent : List ℕ) → List ℕ → (place : ℕ) → Left
 valueNamedTo case a b c d lent xs place = namedTo (length lent) (valueNamed case a b c d) (λ v. valueTo v lent) xs place
 
 -- the program's enum for it

@@ -15,7 +15,7 @@ pub record Date : Type 0 where
   pub day : ℕ
   pub weekday : ℕ
 
-abbrev pub date : ℕ → ℕ → ℕ → ℕ → Date
+abbrev pub date : (year month day weekday : ℕ) → Date
 date y m d w = record { year = y; month = m; day = d; weekday = w }
 
 -- a time of day (20.2.13)
@@ -25,7 +25,7 @@ pub record Time : Type 0 where
   pub second : ℕ
   pub hundredths : ℕ
 
-abbrev pub time : ℕ → ℕ → ℕ → ℕ → Time
+abbrev pub time : (hour minute second hundredths : ℕ) → Time
 time h m s c = record { hour = h; minute = m; second = s; hundredths = c }
 
 -- 01's twelve cases; text, octets and bits are a part of the buffer
