@@ -3,19 +3,18 @@ use crate::answer::Answer;
 use protocol::{put_hex, Read, Request};
 
 pub fn spoken(request: &Request, answer: &Answer) -> String {
-    let [refused, _, a, b, count, ..] = answer.numbers.map(|number| number.unwrap_or(0));
-    let [_, written, _, _, _, _, next, _] = answer.numbers.map(|number| number.unwrap_or(0));
+    let [refused, next, walked, a, b, count, ..] = answer.numbers.map(|number| number.unwrap_or(0));
     match request {
         Request::Write { .. } => {
             let mut words = match refused {
-                0 => format!("ok {written} "),
+                0 => format!("ok {next} "),
                 _ => format!("refused {refused} {a} "),
             };
             put_hex(&answer.buffer, &mut words);
             words
         }
         Request::Read { what: Read::Walk, .. } => match refused {
-            0 => format!("ok {count}"),
+            0 => format!("ok {walked}"),
             _ => format!("refused {refused} {a} {count}"),
         },
         _ => format!("ok ObjectId {a} {b} {next}"),

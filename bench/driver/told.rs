@@ -12,33 +12,33 @@ type Numbers = [Option<u64>; 8];
 pub fn tag((answer, next): (Result<Tag, Error>, usize)) -> Numbers {
     accepted(answer, |tag| {
         let [class, number] = class_and_number(&tag.number);
-        [0, class, number, tag.value.into(), next as u64, 0, 0, 0].map(Some)
+        [0, next as u64, class, number, tag.value.into(), 0, 0, 0].map(Some)
     })
 }
 
 pub fn number<N>((answer, next): (Result<N, Error>, usize), bits: fn(N) -> u64) -> Numbers {
-    accepted(answer, |value| [0, bits(value), next as u64, 0, 0, 0, 0, 0].map(Some))
+    accepted(answer, |value| [0, next as u64, bits(value), 0, 0, 0, 0, 0].map(Some))
 }
 
 // The original does not count tags.
 pub fn body((answer, next): (Result<(&[u8], u8), Error>, usize), buf: &[u8]) -> Numbers {
     let mut told = accepted(answer, |(body, number)| {
         let [place, len] = lies(body, buf);
-        [0, place, len, number.into(), 0, next as u64, 0, 0].map(Some)
+        [0, next as u64, place, len, number.into(), 0, 0, 0].map(Some)
     });
-    told[4] = None;
+    told[5] = None;
     told
 }
 
 pub fn text(answer: Result<&str, Utf8Error>) -> Numbers {
-    let told = answer.map_or_else(|bad| [10, 0, bad.valid_up_to() as u64], |_| [0, 0, 0]);
-    [told[0], told[1], told[2], 0, 0, 0, 0, 0].map(Some)
+    let [first, carried] = answer.map_or_else(|bad| [10, bad.valid_up_to() as u64], |_| [0, 0]);
+    [first, 0, 0, carried, 0, 0, 0, 0].map(Some)
 }
 
 pub fn value((answer, next): (Result<ApplicationDataValue, Error>, usize), buf: &[u8]) -> Numbers {
     accepted(answer, |value| {
         let [case, a, b, c, d] = fields(&value, buf);
-        [0, case, a, b, c, d, next as u64, 0].map(Some)
+        [0, next as u64, case, a, b, c, d, 0].map(Some)
     })
 }
 
@@ -82,7 +82,7 @@ pub fn header((answer, next): (Result<Pdu, Error>, usize)) -> Numbers {
             Pdu::Segment(ack) => [4, ack.invoke_id, ack.sequence_num, ack.proposed_window_size, 0],
         }
         .map(u64::from);
-        [0, kind, a, b, c, d, next as u64, 0].map(Some)
+        [0, next as u64, kind, a, b, c, d, 0].map(Some)
     })
 }
 
@@ -92,11 +92,11 @@ fn accepted<A>(answer: Result<A, Error>, told: impl FnOnce(A) -> Numbers) -> Num
 
 // A refusal; the original's errors have no value of the tag found, and no place of a bad text.
 fn refused(error: Error) -> Numbers {
-    let amount = |number, amount| [number, 0, amount, 0, 0, 0, 0, 0].map(Some);
+    let amount = |number, amount| [number, 0, 0, amount, 0, 0, 0, 0].map(Some);
     let found = |number: u64, tag: &TagNumber| {
         let [class, field] = class_and_number(tag);
-        let mut told = [number, class, field, 0, 0, 0, 0, 0].map(Some);
-        told[3] = None;
+        let mut told = [number, 0, class, field, 0, 0, 0, 0].map(Some);
+        told[4] = None;
         told
     };
     match error {
@@ -108,7 +108,7 @@ fn refused(error: Error) -> Numbers {
         Error::InvalidVariant((_, number)) => amount(11, number.into()),
         Error::InvalidValue(_) => {
             let mut told = amount(10, 0);
-            told[2] = None;
+            told[3] = None;
             told
         }
         other => panic!("an error that no input is meant to give: {other:?}"),

@@ -1,70 +1,31 @@
 /* Thaolisem: a codec for BACnet's application layer (ASHRAE 135, clauses 20.1 and 20.2).
 
    Every function but the first puts eight numbers into the array that the caller lends. The first
-   of them is 0 where the call is accepted, else the refusal's number; those that a row below does
-   not name are 0.
+   of them is 0 where the call is accepted, else the refusal's number; the second is the next place,
+   0 where the answer has none; those that a row below does not name are 0.
 
-     a refusal   number, class, a, b, count
+     a refusal   number, 0, class, a, b, count
                    class 0: a is what the refusal carries
                    class 1 to 4: the tag found, with its number in a and its value in b
                    count: the tags read, where a body or the walk was asked for
-     tag         0, class, number, value, next place
-     unsigned    0, value, next place
-     signed      0, value as int64_t, next place
-     body        0, where its view starts, the view's length, the body's number, count, next place
-     walk        0, 0, 0, 0, count
-     value       0, case, a, b, c, d, next place
-     header      0, kind, a, b, c, d, next place
+     tag         0, next place, class, number, value
+     unsigned    0, next place, value
+     signed      0, next place, value as int64_t
+     body        0, next place, where its view starts, the view's length, the body's number, count
+     walk        0, 0, count
+     value       0, next place, case, a, b, c, d
+     header      0, next place, kind, a, b, c, d
      utf8        0
      a write     0, next place
 
-   Classes: 1 application, 2 context, 3 opening, 4 closing.
+   Classes, cases, kinds, refusals and the places of the eight numbers have names below.
 
-   Cases of a value, and their fields from a on:
-      1 Boolean      0 or 1
-      2 Real         the bits of a float
-      3 Double       the bits of a double
-      4 Date         year (1900 to 2155), month, day, day of the week
-      5 Time         hour, minute, second, hundredths
-      6 ObjectId     type, instance
-      7 Text         place, length
-      8 Octets       place, length
-      9 Bits         unused bits, place, length
-     10 Enumerated   value
-     11 Unsigned     value
-     12 Signed       value as int64_t
-   A value is written from the same fields, except that text, octets and bits have no place and
-   no length: their content is the whole lent slice. A field that the case has not is not read.
+   A value or a header is written from the fields that it is read with, a to d in their order, except
+   that text, octets and bits have no place and no length: their content is the whole lent slice. A
+   field that the case or the kind has not is not read.
 
    NaN: the bits of a Real or Double are kept, read or written, unless they are a NaN's. Every NaN
    is read as 7FC00000 or 7FF8000000000000, and written so, whatever its sign and payload were.
-
-   Kinds of a header (the PDU type), and their fields from a on:
-      0 confirmed request         segments, size, invoke id, service choice
-      2 simple acknowledgement    invoke id, service choice
-      3 complex acknowledgement   invoke id, service choice
-      4 segment acknowledgement   invoke id, sequence number, window size
-
-   Refusals, with what they carry:
-      1 buffer, or lent content, over 65,535 bytes       its length
-      2 start place past the buffer's end                the place
-      3 bytes run out                                    the end for a single byte, else place plus count
-      4 tag number is not the expected one               the tag found
-      5 tag value is not the expected one                the tag found
-      6 no opening tag where a body is asked for         the tag found
-      7 content length not allowed                       the length
-      8 context class, Null, Double or reserved          the tag found
-      9 character set not 0                              the set
-     10 text not UTF-8                                   the first bad place, from the text's start
-     11 service choice above 33                          the choice
-     12 the numbers name nothing that can be written     0
-     13 no room                                          the length of the whole write
-     14 allowance spent                                  the tags read
-     15 a closing tag without its opening                its place
-     16 a seventeenth block open at once                 its place
-     17 other PDU type, or segment bit set               the control byte
-     18 enumerated value above 4,294,967,295             0
-   5 is given by no function here.
 
    All that gives 12, each in a write:
      tag         a class that is not 1 to 4; an application number above 15;
@@ -78,7 +39,8 @@
      ObjectId    a type above 1,023; an instance above 4,194,303
      Bits        more than 7 unused bits; unused bits with no bytes
      Enumerated  as a value, one above 4,294,967,295
-     header      a kind that is not 0, 2, 3 or 4; segments or size of a request above 15
+     header      a kind that is not 0, 2, 3 or 4; segments or size of a request above 15; another
+                 field above 255 (a service choice of 34 to 255 gives 11)
 
    A read tests 1, then 2, then what the bytes tell as they come; a write tests 1, 2, 12, then 11 or
    10, then 13. A refused write changes no byte of the buffer; one that is accepted changes only the
@@ -98,10 +60,128 @@ extern "C" {
 #endif
 
 /* The version of the calls that this header declares. */
-#define THAOLISEM_VERSION 1
+#define THAOLISEM_VERSION 2
 
 /* The version of the library's calls; where it is not THAOLISEM_VERSION, this header is of another library, and no other function is to be called. */
 uint64_t thaolisem_version(void);
+
+/* Classes of a tag. */
+enum {
+    THAOLISEM_APPLICATION = 1,
+    THAOLISEM_CONTEXT = 2,
+    THAOLISEM_OPENING = 3,
+    THAOLISEM_CLOSING = 4
+};
+
+/* Cases of a value, and their fields. */
+enum {
+    THAOLISEM_BOOLEAN = 1,     /* 0 or 1 */
+    THAOLISEM_REAL = 2,        /* the bits of a float */
+    THAOLISEM_DOUBLE = 3,      /* the bits of a double */
+    THAOLISEM_DATE = 4,        /* year (1900 to 2155), month, day, day of the week */
+    THAOLISEM_TIME = 5,        /* hour, minute, second, hundredths */
+    THAOLISEM_OBJECT_ID = 6,   /* type, instance */
+    THAOLISEM_TEXT = 7,        /* place, length */
+    THAOLISEM_OCTETS = 8,      /* place, length */
+    THAOLISEM_BITS = 9,        /* unused bits, place, length */
+    THAOLISEM_ENUMERATED = 10, /* value */
+    THAOLISEM_UNSIGNED = 11,   /* value */
+    THAOLISEM_SIGNED = 12      /* value as int64_t */
+};
+
+/* Kinds of a header (the PDU type), and their fields. */
+enum {
+    THAOLISEM_REQUEST = 0,     /* segments, size, invoke id, service choice */
+    THAOLISEM_SIMPLE_ACK = 2,  /* invoke id, service choice */
+    THAOLISEM_COMPLEX_ACK = 3, /* invoke id, service choice */
+    THAOLISEM_SEGMENT_ACK = 4  /* invoke id, sequence number, window size */
+};
+
+/* Refusals, and what they carry. */
+enum {
+    THAOLISEM_BUFFER_TOO_LONG = 1,           /* buffer, or lent content, over 65,535 bytes: its length */
+    THAOLISEM_PLACE_PAST_END = 2,            /* start place past the buffer's end: the place */
+    THAOLISEM_BYTES_RUN_OUT = 3,             /* bytes run out: the end for a single byte, else place plus count */
+    THAOLISEM_OTHER_TAG_NUMBER = 4,          /* tag number is not the expected one: the tag found */
+    THAOLISEM_OTHER_TAG_VALUE = 5,           /* tag value is not the expected one: the tag found; given by no function here */
+    THAOLISEM_NO_OPENING_TAG = 6,            /* no opening tag where a body is asked for: the tag found */
+    THAOLISEM_LENGTH_NOT_ALLOWED = 7,        /* content length not allowed: the length */
+    THAOLISEM_NOT_A_VALUE_TAG = 8,           /* context class, Null, Double or reserved: the tag found */
+    THAOLISEM_OTHER_CHARACTER_SET = 9,       /* character set not 0: the set */
+    THAOLISEM_TEXT_NOT_UTF8 = 10,            /* text not UTF-8: the first bad place, from the text's start */
+    THAOLISEM_SERVICE_CHOICE_TOO_LARGE = 11, /* service choice above 33: the choice */
+    THAOLISEM_CANNOT_BE_WRITTEN = 12,        /* the numbers name nothing that can be written: 0 */
+    THAOLISEM_NO_ROOM = 13,                  /* no room: the length of the whole write */
+    THAOLISEM_ALLOWANCE_SPENT = 14,          /* allowance spent: the tags read */
+    THAOLISEM_CLOSING_WITHOUT_OPENING = 15,  /* a closing tag without its opening: its place */
+    THAOLISEM_TOO_MANY_BLOCKS_OPEN = 16,     /* a seventeenth block open at once: its place */
+    THAOLISEM_OTHER_PDU_TYPE = 17,           /* other PDU type, or segment bit set: the control byte */
+    THAOLISEM_ENUMERATED_TOO_LARGE = 18      /* enumerated value above 4,294,967,295: 0 */
+};
+
+/* Places of the eight numbers, by kind of answer. */
+enum {
+    /* every answer */
+    THAOLISEM_REFUSAL = 0, /* 0, or the refusal's number */
+    THAOLISEM_NEXT = 1,
+
+    /* a refusal; where its class is 0, what it carries is no tag */
+    THAOLISEM_FOUND_CLASS = 2,
+    THAOLISEM_CARRIED = 3,
+    THAOLISEM_FOUND_NUMBER = 3,
+    THAOLISEM_FOUND_VALUE = 4,
+    THAOLISEM_TAGS_READ = 5,
+
+    /* a tag */
+    THAOLISEM_TAG_CLASS = 2,
+    THAOLISEM_TAG_NUMBER = 3,
+    THAOLISEM_TAG_VALUE = 4,
+
+    /* an integer */
+    THAOLISEM_INTEGER = 2,
+
+    /* a body */
+    THAOLISEM_BODY_START = 2,
+    THAOLISEM_BODY_LENGTH = 3,
+    THAOLISEM_BODY_NUMBER = 4,
+    THAOLISEM_BODY_TAGS = 5,
+
+    /* the walk */
+    THAOLISEM_WALK_TAGS = 2,
+
+    /* a value, and the fields of its case; those of one field have it in THAOLISEM_VALUE */
+    THAOLISEM_CASE = 2,
+    THAOLISEM_VALUE = 3,
+    THAOLISEM_DATE_YEAR = 3,
+    THAOLISEM_DATE_MONTH = 4,
+    THAOLISEM_DATE_DAY = 5,
+    THAOLISEM_DATE_WEEKDAY = 6,
+    THAOLISEM_TIME_HOUR = 3,
+    THAOLISEM_TIME_MINUTE = 4,
+    THAOLISEM_TIME_SECOND = 5,
+    THAOLISEM_TIME_HUNDREDTHS = 6,
+    THAOLISEM_OBJECT_TYPE = 3,
+    THAOLISEM_OBJECT_INSTANCE = 4,
+    THAOLISEM_TEXT_PLACE = 3,
+    THAOLISEM_TEXT_LENGTH = 4,
+    THAOLISEM_OCTETS_PLACE = 3,
+    THAOLISEM_OCTETS_LENGTH = 4,
+    THAOLISEM_BITS_UNUSED = 3,
+    THAOLISEM_BITS_PLACE = 4,
+    THAOLISEM_BITS_LENGTH = 5,
+
+    /* a header, and the fields of its kind */
+    THAOLISEM_KIND = 2,
+    THAOLISEM_REQUEST_SEGMENTS = 3,
+    THAOLISEM_REQUEST_SIZE = 4,
+    THAOLISEM_REQUEST_ID = 5,
+    THAOLISEM_REQUEST_CHOICE = 6,
+    THAOLISEM_ACK_ID = 3, /* simple and complex */
+    THAOLISEM_ACK_CHOICE = 4,
+    THAOLISEM_SEGMENT_ID = 3,
+    THAOLISEM_SEGMENT_SEQUENCE = 4,
+    THAOLISEM_SEGMENT_WINDOW = 5
+};
 
 /* Reads, at a place of a buffer. */
 
@@ -153,7 +233,7 @@ void thaolisem_encode_context_bool(uint8_t number, uint8_t value, uint8_t *buf, 
 void thaolisem_encode_value(uint8_t value_case, uint64_t a, uint64_t b, uint64_t c, uint64_t d, const uint8_t *content, size_t content_len, uint8_t *buf, size_t len, size_t place, uint64_t answer[8]);
 
 /* A header alone, by its kind and fields; a field that the kind has not is not read. Refused 11 too. */
-void thaolisem_encode_header(uint8_t kind, uint8_t a, uint8_t b, uint8_t c, uint8_t d, uint8_t *buf, size_t len, size_t place, uint64_t answer[8]);
+void thaolisem_encode_header(uint8_t kind, uint64_t a, uint64_t b, uint64_t c, uint64_t d, uint8_t *buf, size_t len, size_t place, uint64_t answer[8]);
 
 #ifdef __cplusplus
 }

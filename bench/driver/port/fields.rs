@@ -37,11 +37,12 @@ pub fn value_fields(value: &Value) -> (u8, [u64; 4], &[u8]) {
     }
 }
 
-pub fn header_fields(header: Header) -> [u8; 5] {
-    match header {
+pub fn header_fields(header: Header) -> (u8, [u64; 4]) {
+    let [kind, fields @ ..] = match header {
         Header::Request { segments, size, id, choice } => [0, segments, size, id, choice],
         Header::Simple { id, choice } => [2, id, choice, 0, 0],
         Header::Complex { id, choice } => [3, id, choice, 0, 0],
         Header::Segment { id, sequence, window } => [4, id, sequence, window, 0],
-    }
+    };
+    (kind, fields.map(u64::from))
 }

@@ -80,7 +80,7 @@ fn whole(what: &Write, bytes: &mut [u8], place: usize, count: u64, told: &mut [u
                 })
             }
             Write::Header(header) => {
-                let [kind, a, b, c, d] = header_fields(header);
+                let (kind, [a, b, c, d]) = header_fields(header);
                 repeat(count, move || {
                     thaolisem_encode_header(kind, a, b, c, d, buf, len, place, told)
                 })

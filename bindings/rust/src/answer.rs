@@ -57,11 +57,11 @@ impl fmt::Display for Refusal {
 /// The first number where the library was not called, as it has another version; what it carries is that version.
 pub(crate) const OTHER_VERSION: u64 = u64::MAX;
 
-/// Whether an answer is accepted, else its refusal.
+/// The next place of an answer that is accepted, else its refusal; where there is no next place, 0.
 #[inline]
-pub(crate) fn accepted(told: &Numbers) -> Result<(), Refusal> {
+pub(crate) fn accepted(told: &Numbers) -> Result<usize, Refusal> {
     if told[0] == 0 {
-        Ok(())
+        Ok(told[1] as usize)
     } else {
         Err(refusal(told))
     }
@@ -70,15 +70,16 @@ pub(crate) fn accepted(told: &Numbers) -> Result<(), Refusal> {
 /// The refusal that the numbers tell.
 #[cold]
 pub(crate) fn refusal(told: &Numbers) -> Refusal {
-    let carried = match told[1] {
-        0 => Carried::Amount(told[2]),
-        class => match Tag::told(class, told[2], told[3]) {
+    let [first, _, class, carried, value, tags, ..] = *told;
+    let carried = match class {
+        0 => Carried::Amount(carried),
+        class => match Tag::told(class, carried, value) {
             Some(tag) => Carried::TagFound(tag),
             None => return Refusal::UNNAMED,
         },
     };
-    let number = if told[0] == OTHER_VERSION { 0 } else { told[0] };
-    Refusal { number, carried, tags: told[4] as usize }
+    let number = if first == OTHER_VERSION { 0 } else { first };
+    Refusal { number, carried, tags: tags as usize }
 }
 
 /// The part of a buffer that a place and a length tell, where it lies inside.

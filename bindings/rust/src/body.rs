@@ -60,12 +60,13 @@ pub fn get_tagged_body_for_tag_within<'a>(
 /// The body that the numbers tell; the reader goes on behind its closing tag.
 #[inline]
 fn found<'a>(told: Numbers, reader: &mut Reader, view: &'a [u8]) -> Result<Body<'a>, Refusal> {
-    accepted(&told)?;
+    let next = accepted(&told)?;
+    let [_, _, start, len, number, tags, ..] = told;
     let body = Body {
-        view: part(view, told[1], told[2]).ok_or(Refusal::UNNAMED)?,
-        number: u8::try_from(told[3]).map_err(|_| Refusal::UNNAMED)?,
-        tags: told[4] as usize,
+        view: part(view, start, len).ok_or(Refusal::UNNAMED)?,
+        number: u8::try_from(number).map_err(|_| Refusal::UNNAMED)?,
+        tags: tags as usize,
     };
-    reader.index = told[5] as usize;
+    reader.index = next;
     Ok(body)
 }

@@ -101,12 +101,12 @@ pub fn decode_value(buf: &[u8], place: usize) -> (Numbers, Option<&str>) {
     let told = unsafe {
         answer_of(|answer| thaolisem_decode_value(buf.as_ptr(), buf.len(), place, answer))
     };
-    if told[0] != 0 || told[1] != 7 {
+    if told[0] != 0 || told[2] != 7 {
         return (told, None);
     }
     // Sound: the promise of an accepted text is that its bytes are UTF-8 (RFC 3629), which is what a `str` asks for.
     let text =
-        part(buf, told[2], told[3]).map(|bytes| unsafe { core::str::from_utf8_unchecked(bytes) });
+        part(buf, told[3], told[4]).map(|bytes| unsafe { core::str::from_utf8_unchecked(bytes) });
     (told, text)
 }
 
@@ -199,7 +199,7 @@ pub fn encode_value(
 
 /// Writes the header of a PDU type and its fields.
 #[inline]
-pub fn encode_header(kind: u8, [a, b, c, d]: [u8; 4], buf: &mut [u8], place: usize) -> Numbers {
+pub fn encode_header(kind: u8, [a, b, c, d]: [u64; 4], buf: &mut [u8], place: usize) -> Numbers {
     let (bytes, len) = (buf.as_mut_ptr(), buf.len());
     unsafe {
         answer_of(|answer| thaolisem_encode_header(kind, a, b, c, d, bytes, len, place, answer))

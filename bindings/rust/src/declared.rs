@@ -2,7 +2,7 @@
 use crate::answer::Numbers;
 
 /// The version of the library that this crate speaks to.
-pub const THAOLISEM_VERSION: u64 = 1;
+pub const THAOLISEM_VERSION: u64 = 2;
 
 #[link(name = "thaolisem", kind = "static")]
 extern "C" {
@@ -116,10 +116,10 @@ extern "C" {
 
     pub fn thaolisem_encode_header(
         kind: u8,
-        a: u8,
-        b: u8,
-        c: u8,
-        d: u8,
+        a: u64,
+        b: u64,
+        c: u64,
+        d: u64,
         buf: *mut u8,
         len: usize,
         place: usize,

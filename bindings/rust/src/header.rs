@@ -50,9 +50,9 @@ impl Header {
     #[inline]
     pub fn decode(reader: &mut Reader, buf: &[u8]) -> Result<Self, Refusal> {
         let told = calls::decode_header(reader.view(buf), reader.index);
-        accepted(&told)?;
+        let next = accepted(&told)?;
         let header = Self::told(&told).ok_or(Refusal::UNNAMED)?;
-        reader.index = told[6] as usize;
+        reader.index = next;
         Ok(header)
     }
 
@@ -61,21 +61,21 @@ impl Header {
     pub(crate) fn told(told: &Numbers) -> Option<Self> {
         let field = |place: usize| u8::try_from(told[place]).ok();
         let choice = |place| ConfirmedServiceChoice::try_from(field(place)?).ok();
-        Some(match told[1] {
+        Some(match told[2] {
             0 => Header::ConfirmedRequest(ConfirmedRequest {
-                max_segments: field(2)?,
-                max_adpu: field(3)?,
-                invoke_id: field(4)?,
-                service_choice: choice(5)?,
+                max_segments: field(3)?,
+                max_adpu: field(4)?,
+                invoke_id: field(5)?,
+                service_choice: choice(6)?,
             }),
-            2 => Header::SimpleAck(SimpleAck { invoke_id: field(2)?, service_choice: choice(3)? }),
+            2 => Header::SimpleAck(SimpleAck { invoke_id: field(3)?, service_choice: choice(4)? }),
             3 => {
-                Header::ComplexAck(ComplexAck { invoke_id: field(2)?, service_choice: choice(3)? })
+                Header::ComplexAck(ComplexAck { invoke_id: field(3)?, service_choice: choice(4)? })
             }
             4 => Header::SegmentAck(SegmentAck {
-                invoke_id: field(2)?,
-                sequence_num: field(3)?,
-                proposed_window_size: field(4)?,
+                invoke_id: field(3)?,
+                sequence_num: field(4)?,
+                proposed_window_size: field(5)?,
             }),
             _ => return None,
         })
@@ -96,7 +96,7 @@ impl Header {
 /// Writes the header of a PDU type and its fields in their order.
 #[inline]
 fn put(kind: u8, fields: [u8; 4], writer: &mut Writer) -> Result<(), Refusal> {
-    let told = calls::encode_header(kind, fields, writer.buf, writer.index);
+    let told = calls::encode_header(kind, fields.map(u64::from), writer.buf, writer.index);
     writer.written(told)
 }
 

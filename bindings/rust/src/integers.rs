@@ -8,18 +8,16 @@ use crate::writer::Writer;
 #[inline]
 pub fn decode_unsigned(len: u32, reader: &mut Reader, buf: &[u8]) -> Result<u64, Refusal> {
     let told = calls::decode_unsigned(len, reader.view(buf), reader.index);
-    accepted(&told)?;
-    reader.index = told[2] as usize;
-    Ok(told[1])
+    reader.index = accepted(&told)?;
+    Ok(told[2])
 }
 
 /// The signed integer whose content has this length, 1 to 8.
 #[inline]
 pub fn decode_signed(len: u32, reader: &mut Reader, buf: &[u8]) -> Result<i64, Refusal> {
     let told = calls::decode_signed(len, reader.view(buf), reader.index);
-    accepted(&told)?;
-    reader.index = told[2] as usize;
-    Ok(told[1] as i64)
+    reader.index = accepted(&told)?;
+    Ok(told[2] as i64)
 }
 
 /// The class and the number under which an integer is written: the application tag of its kind, or a context tag.

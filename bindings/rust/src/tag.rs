@@ -108,9 +108,9 @@ impl Tag {
     #[inline]
     pub fn decode(reader: &mut Reader, buf: &[u8]) -> Result<Self, Refusal> {
         let told = calls::decode_tag(reader.view(buf), reader.index);
-        accepted(&told)?;
-        let tag = Self::told(told[1], told[2], told[3]).ok_or(Refusal::UNNAMED)?;
-        reader.index = told[4] as usize;
+        let next = accepted(&told)?;
+        let tag = Self::told(told[2], told[3], told[4]).ok_or(Refusal::UNNAMED)?;
+        reader.index = next;
         Ok(tag)
     }
 

@@ -21,14 +21,14 @@ fn tags() {
 
 #[test]
 fn refusals() {
-    assert_eq!(accepted(&[4, 5, 0, 0, 0, 0, 0, 0]), Err(Refusal::UNNAMED));
-    assert_eq!(accepted(&[4, 1, 16, 0, 0, 0, 0, 0]), Err(Refusal::UNNAMED));
+    assert_eq!(accepted(&[4, 0, 5, 0, 0, 0, 0, 0]), Err(Refusal::UNNAMED));
+    assert_eq!(accepted(&[4, 0, 1, 16, 0, 0, 0, 0]), Err(Refusal::UNNAMED));
     assert_eq!(accepted(&[u64::MAX; 8]), Err(Refusal::UNNAMED));
 }
 
 /// An accepted answer of a case or kind, with one number as given and the others 0.
 fn with(case: u64, place: usize, number: u64) -> Numbers {
-    let mut told = [0, case, 0, 0, 0, 0, 0, 0];
+    let mut told = [0, 0, case, 0, 0, 0, 0, 0];
     told[place] = number;
     told
 }
@@ -36,24 +36,24 @@ fn with(case: u64, place: usize, number: u64) -> Numbers {
 #[test]
 fn values() {
     for case in [0, 13].into_iter().chain(LARGE) {
-        assert_eq!(ApplicationDataValue::told(&with(case, 2, 0), Some(""), &[]), None);
+        assert_eq!(ApplicationDataValue::told(&with(case, 3, 0), Some(""), &[]), None);
     }
     // the cases with fields, and at which place a number is too large for its field
-    let fields = [(1, 2, 2), (2, 2, 1 << 32), (4, 2, 65_536), (4, 5, 256), (5, 4, 256)];
-    let more = [(6, 2, 65_536), (6, 3, 1 << 32), (8, 2, 1), (8, 3, 1), (9, 2, 256), (9, 4, 1)];
-    for (case, place, number) in fields.into_iter().chain(more).chain([(10, 2, 1 << 32)]) {
+    let fields = [(1, 3, 2), (2, 3, 1 << 32), (4, 3, 65_536), (4, 6, 256), (5, 5, 256)];
+    let more = [(6, 3, 65_536), (6, 4, 1 << 32), (8, 3, 1), (8, 4, 1), (9, 3, 256), (9, 5, 1)];
+    for (case, place, number) in fields.into_iter().chain(more).chain([(10, 3, 1 << 32)]) {
         assert_eq!(ApplicationDataValue::told(&with(case, place, number), None, &[]), None);
         assert!(ApplicationDataValue::told(&with(case, place, 0), None, &[]).is_some());
     }
-    assert_eq!(ApplicationDataValue::told(&with(7, 2, 0), None, &[]), None);
+    assert_eq!(ApplicationDataValue::told(&with(7, 3, 0), None, &[]), None);
 }
 
 #[test]
 fn headers() {
     for kind in [1, 5].into_iter().chain(LARGE) {
-        assert_eq!(Header::told(&with(kind, 2, 0)), None);
+        assert_eq!(Header::told(&with(kind, 3, 0)), None);
     }
-    for (kind, place, number) in [(0, 2, 256), (0, 5, 34), (2, 3, 34), (3, 2, 256), (4, 4, 256)] {
+    for (kind, place, number) in [(0, 3, 256), (0, 6, 34), (2, 4, 34), (3, 3, 256), (4, 5, 256)] {
         assert_eq!(Header::told(&with(kind, place, number)), None);
         assert!(Header::told(&with(kind, place, 0)).is_some());
     }

@@ -100,9 +100,9 @@ impl<'a> ApplicationDataValue<'a> {
     pub fn decode(reader: &mut Reader, buf: &'a [u8]) -> Result<Self, Refusal> {
         let view = reader.view(buf);
         let (told, text) = calls::decode_value(view, reader.index);
-        accepted(&told)?;
+        let next = accepted(&told)?;
         let value = Self::told(&told, text, view).ok_or(Refusal::UNNAMED)?;
-        reader.index = told[6] as usize;
+        reader.index = next;
         Ok(value)
     }
 

@@ -24,5 +24,5 @@ fn asked() -> bool {
 /// The numbers of a call that is not made, as the library has another version.
 #[inline]
 pub(crate) fn refused() -> Numbers {
-    [OTHER_VERSION, 0, ANSWERED.load(Relaxed), 0, 0, 0, 0, 0]
+    [OTHER_VERSION, 0, 0, ANSWERED.load(Relaxed), 0, 0, 0, 0]
 }

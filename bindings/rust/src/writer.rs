@@ -46,8 +46,7 @@ impl<'a> Writer<'a> {
     /// Goes on behind what a write answered to have written.
     #[inline]
     pub(crate) fn written(&mut self, told: Numbers) -> Result<(), Refusal> {
-        accepted(&told)?;
-        self.index = told[1] as usize;
+        self.index = accepted(&told)?;
         Ok(())
     }
 }

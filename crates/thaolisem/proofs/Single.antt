@@ -79,7 +79,7 @@ number-again (opening k) = refl
 number-again (closing k) = refl
 
 abbrev carried : List ℕ → Carried
-carried l = if (eqb (at l 1) 0) (amount (at l 2)) (tagFound (tag (number (at l 1) (at l 2)) (at l 3)))
+carried l = if (eqb (at l 2) 0) (amount (at l 3)) (tagFound (tag (number (at l 2) (at l 3)) (at l 4)))
 
 -- an answer from its eight numbers, where an accepted one is known from them
 abbrev answer : {A : Type 0} → (List ℕ → Answer A) → List ℕ → Answer A
@@ -113,7 +113,7 @@ refusal-again given r.EnumeratedTooLarge tags = refl
 refusal-again given r.LineNotHexadecimal tags = refl
 
 abbrev tagFields : List ℕ → Answer Tag
-tagFields l = accepted (tag (number (at l 1) (at l 2)) (at l 3)) (at l 4)
+tagFields l = accepted (tag (number (at l 2) (at l 3)) (at l 4)) (at l 1)
 
 abbrev tagBack : List ℕ → Answer Tag
 tagBack = answer tagFields
@@ -126,7 +126,7 @@ pub single-told-tag : (x y : TagRead) → toldTag (paperTag x) ≡ toldTag (pape
 single-told-tag x y e = single-tag-read x y (apart toldTag tagBack (paperTag x) (paperTag y) (tag-again x) (tag-again y) e)
 
 abbrev unsignedFields : List ℕ → Answer ℕ
-unsignedFields l = accepted (at l 1) (at l 2)
+unsignedFields l = accepted (at l 2) (at l 1)
 
 abbrev unsignedBack : List ℕ → Answer ℕ
 unsignedBack = answer unsignedFields
@@ -148,7 +148,7 @@ pattern-again (negsuc k) h =
     simp (le-ltb (n * 2) (256 ^ 8) f) (ap negsuc g)
 
 abbrev signedFields : List ℕ → Answer ℤ
-signedFields l = accepted (twosComplement 8 (at l 1)) (at l 2)
+signedFields l = accepted (twosComplement 8 (at l 2)) (at l 1)
 
 abbrev signedBack : List ℕ → Answer ℤ
 signedBack = answer signedFields
@@ -166,14 +166,14 @@ pub single-told-signed : (x y : SignedRead) → Held64 x → Held64 y → toldSi
 single-told-signed x y hx hy e = single-signed x y (apart toldSigned signedBack (paperSigned x) (paperSigned y) (signed-again x hx) (signed-again y hy) e)
 
 abbrev bodyFields : List ℕ → Answer Body
-bodyFields l = accepted (body (at l 1) (at l 2) (at l 3)) (at l 5)
+bodyFields l = accepted (body (at l 2) (at l 3) (at l 4)) (at l 1)
 
 abbrev bodyBack : List ℕ → Counted
-bodyBack l = counted (answer bodyFields l) (at l 4)
+bodyBack l = counted (answer bodyFields l) (at l 5)
 
-tags-again : (x : Refusal) (tags : ℕ) → at (toldRefusal (table x .number) (table x .carries) tags) 4 ≡ tags
+tags-again : (x : Refusal) (tags : ℕ) → at (toldRefusal (table x .number) (table x .carries) tags) 5 ≡ tags
 tags-again x tags = by-carried (table x .number) (table x .carries) tags where
-  by-carried : (n : ℕ) (c : Carried) (k : ℕ) → at (toldRefusal n c k) 4 ≡ k
+  by-carried : (n : ℕ) (c : Carried) (k : ℕ) → at (toldRefusal n c k) 5 ≡ k
   by-carried n (amount a) k = refl
   by-carried n (tagFound a) k = refl
 
@@ -186,42 +186,43 @@ body-again (b.Refused x tags) =
 pub single-told-body : (x y : BodyRead) → toldBody (paperBody x) ≡ toldBody (paperBody y) → x ≡ y
 single-told-body x y e = single-body x y (apart toldBody bodyBack (paperBody x) (paperBody y) (body-again x) (body-again y) e)
 
-abbrev outcomeIn : Answer (Unit {0}) → Outcome
-outcomeIn (accepted a next) = passed
-outcomeIn (refused n c) = stopped n c
+-- the count of a walk that passed, and of one that was refused
+abbrev walkIn : Answer ℕ → ℕ → Report
+walkIn (accepted tags next) k = report tags passed
+walkIn (refused n c) k = report k (stopped n c)
 
-abbrev noFields : List ℕ → Answer (Unit {0})
-noFields l = accepted tt 0
+abbrev walkFields : List ℕ → Answer ℕ
+walkFields l = accepted (at l 2) 0
 
 abbrev walkBack : List ℕ → Report
-walkBack l = report (at l 4) (outcomeIn (answer noFields l))
+walkBack l = walkIn (answer walkFields l) (at l 5)
 
 walk-again : (tags : ℕ) (x : program-outcome.Outcome) → walkBack (toldWalk (report tags (paperOutcome x))) ≡ report tags (paperOutcome x)
 walk-again tags o.Passed = refl
 walk-again tags (o.Refused x) =
-    ap (λ (k : ℕ). report k (outcomeIn (answer noFields (toldRefusal (table x .number) (table x .carries) tags)))) (tags-again x tags)
-    ∙ ap (λ (a : Answer (Unit {0})). report tags (outcomeIn a)) (refusal-again noFields x tags)
+    ap (walkIn (answer walkFields (toldRefusal (table x .number) (table x .carries) tags))) (tags-again x tags)
+    ∙ ap (λ (a : Answer ℕ). walkIn a tags) (refusal-again walkFields x tags)
 
 pub single-told-walk : (x y : Walked) → toldWalk (paperWalked x) ≡ toldWalk (paperWalked y) → x ≡ y
 single-told-walk x y e = single-walked x y (apart toldWalk walkBack (paperWalked x) (paperWalked y) (walk-again (x .tags) (x .outcome)) (walk-again (y .tags) (y .outcome)) e)
 
 abbrev valueIn : List ℕ → Value
 valueIn l =
-    if (eqb (at l 1) 1) (boolean (eqb (at l 2) 1))
-    (if (eqb (at l 1) 2) (real (ofBits binary32 (at l 2)))
-    (if (eqb (at l 1) 3) (double (ofBits binary64 (at l 2)))
-    (if (eqb (at l 1) 4) (onDate (date (at l 2) (at l 3) (at l 4) (at l 5)))
-    (if (eqb (at l 1) 5) (atTime (time (at l 2) (at l 3) (at l 4) (at l 5)))
-    (if (eqb (at l 1) 6) (objectId (at l 2) (at l 3))
-    (if (eqb (at l 1) 7) (characterString (partAt (at l 2) (at l 3)))
-    (if (eqb (at l 1) 8) (octetString (partAt (at l 2) (at l 3)))
-    (if (eqb (at l 1) 9) (bitString (at l 2) (partAt (at l 3) (at l 4)))
-    (if (eqb (at l 1) 10) (enumerated (at l 2))
-    (if (eqb (at l 1) 11) (unsignedInt (at l 2))
-    (signedInt (twosComplement 8 (at l 2)))))))))))))
+    if (eqb (at l 2) 1) (boolean (eqb (at l 3) 1))
+    (if (eqb (at l 2) 2) (real (ofBits binary32 (at l 3)))
+    (if (eqb (at l 2) 3) (double (ofBits binary64 (at l 3)))
+    (if (eqb (at l 2) 4) (onDate (date (at l 3) (at l 4) (at l 5) (at l 6)))
+    (if (eqb (at l 2) 5) (atTime (time (at l 3) (at l 4) (at l 5) (at l 6)))
+    (if (eqb (at l 2) 6) (objectId (at l 3) (at l 4))
+    (if (eqb (at l 2) 7) (characterString (partAt (at l 3) (at l 4)))
+    (if (eqb (at l 2) 8) (octetString (partAt (at l 3) (at l 4)))
+    (if (eqb (at l 2) 9) (bitString (at l 3) (partAt (at l 4) (at l 5)))
+    (if (eqb (at l 2) 10) (enumerated (at l 3))
+    (if (eqb (at l 2) 11) (unsignedInt (at l 3))
+    (signedInt (twosComplement 8 (at l 3)))))))))))))
 
 abbrev valueFields : List ℕ → Answer Value
-valueFields l = accepted (valueIn l) (at l 6)
+valueFields l = accepted (valueIn l) (at l 1)
 
 abbrev valueBack : List ℕ → Answer Value
 valueBack = answer valueFields
@@ -255,13 +256,13 @@ single-told-value x y hx hy e = single-read x y (apart toldValue valueBack (pape
 
 abbrev headerIn : List ℕ → headers.Header
 headerIn l =
-    if (eqb (at l 1) 0) (headers.header headers.request (headers.nibbles (at l 2) (at l 3) ∷ headers.number (at l 4) ∷ headers.choice (at l 5) ∷ []))
-    (if (eqb (at l 1) 2) (headers.header headers.simple (headers.number (at l 2) ∷ headers.choice (at l 3) ∷ []))
-    (if (eqb (at l 1) 3) (headers.header headers.complex (headers.number (at l 2) ∷ headers.choice (at l 3) ∷ []))
-    (headers.header headers.segment (headers.number (at l 2) ∷ headers.number (at l 3) ∷ headers.number (at l 4) ∷ []))))
+    if (eqb (at l 2) 0) (headers.header headers.request (headers.nibbles (at l 3) (at l 4) ∷ headers.number (at l 5) ∷ headers.choice (at l 6) ∷ []))
+    (if (eqb (at l 2) 2) (headers.header headers.simple (headers.number (at l 3) ∷ headers.choice (at l 4) ∷ []))
+    (if (eqb (at l 2) 3) (headers.header headers.complex (headers.number (at l 3) ∷ headers.choice (at l 4) ∷ []))
+    (headers.header headers.segment (headers.number (at l 3) ∷ headers.number (at l 4) ∷ headers.number (at l 5) ∷ []))))
 
 abbrev headerFields : List ℕ → Answer headers.Header
-headerFields l = accepted (headerIn l) (at l 6)
+headerFields l = accepted (headerIn l) (at l 1)
 
 abbrev headerBack : List ℕ → Answer headers.Header
 headerBack = answer headerFields
@@ -278,6 +279,13 @@ header-again (hr.Refused x) = refusal-again headerFields x 0
 
 pub single-told-header : (x y : HeaderRead) → toldHeader (paperHeader x) ≡ toldHeader (paperHeader y) → x ≡ y
 single-told-header x y e = single-header-read x y (apart toldHeader headerBack (paperHeader x) (paperHeader y) (header-again x) (header-again y) e)
+
+abbrev outcomeIn : Answer (Unit {0}) → Outcome
+outcomeIn (accepted a next) = passed
+outcomeIn (refused n c) = stopped n c
+
+abbrev noFields : List ℕ → Answer (Unit {0})
+noFields l = accepted tt 0
 
 abbrev checkBack : List ℕ → Outcome
 checkBack l = outcomeIn (answer noFields l)

@@ -1,4 +1,5 @@
 pub mod Told
 pub mod Named
 pub mod Value
+pub mod Header
 pub mod Version

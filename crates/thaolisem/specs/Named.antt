@@ -11,23 +11,23 @@ use Rattle.types.specs.Tag.{Number, application, context, opening, closing, tag
 use Rattle.types.specs.Writing.{Left, unwritable, writing}
 use Rattle.tags.specs.Writing.{tagTo}
 use Rattle.tags.specs.Item.{itemTo, numberUnder, booleanByte}
-use Rattle.headers.specs.Header.{Header, header, request, simple, complex, segment, nibbles, number, choice, headerOf}
-use Rattle.headers.specs.Writing.{headerTo}
 use Rattle.thaolisem.specs.declared.tag.NumberNamed as program-number
 use Rattle.thaolisem.specs.declared.tag.NumberNamed.the-variants as n
 use Rattle.thaolisem.specs.declared.integer.ContextTagNamed as program-under
 use Rattle.thaolisem.specs.declared.integer.ContextTagNamed.the-variants as c
-use Rattle.thaolisem.specs.declared.header.HeaderNamed as program-header
-use Rattle.thaolisem.specs.declared.header.HeaderNamed.the-variants as h
 
 -- the write of what is named; where nothing is, 12, after 01's tests of the buffer, the lent content and the place
 abbrev pub namedTo : {A : Type 0} → (lent : ℕ) → Option A → (A → List ℕ → ℕ → Left) → List ℕ → (place : ℕ) → Left
 namedTo lent (some a) to xs place = to a xs place
 namedTo lent none to xs place = writing lent unwritable [] xs place
 
+-- what is named where a number is at most so large
+abbrev pub ifAtMost : {A : Type 0} → (most number : ℕ) → Option A → Option A
+ifAtMost most x named = if (ltb most x) none named
+
 -- an application tag's number goes to 15
 abbrev pub applicationNamed : ℕ → Option Number
-applicationNamed k = if (ltb 15 k) none (some (application k))
+applicationNamed k = ifAtMost 15 k (some (application k))
 
 -- a tag's class, 1 application, 2 context, 3 opening, 4 closing, and its number
 unfoldable pub numberNamed : (class number : ℕ) → Option Number
@@ -58,18 +58,6 @@ booleanNamed b = if (eqb b 0) (some false) (if (eqb b 1) (some true) none)
 unfoldable pub booleanNamedTo : (number boolean : ℕ) → List ℕ → (place : ℕ) → Left
 booleanNamedTo k b xs place = namedTo 0 (booleanNamed b) (λ x. itemTo (context k) (booleanByte x ∷ [])) xs place
 
--- a header: its PDU type and its fields in their order; a field that it has not is not read
-unfoldable pub headerNamed : (kind first second third fourth : ℕ) → Option Header
-headerNamed kind a b c d =
-    if (eqb kind 0) (some (header request (nibbles a b ∷ number c ∷ choice d ∷ [])))
-    (if (eqb kind 2) (some (header simple (number a ∷ choice b ∷ [])))
-    (if (eqb kind 3) (some (header complex (number a ∷ choice b ∷ [])))
-    (if (eqb kind 4) (some (header segment (number a ∷ number b ∷ number c ∷ [])))
-    none)))
-
-unfoldable pub headerNamedTo : (kind first second third fourth : ℕ) → List ℕ → (place : ℕ) → Left
-headerNamedTo kind a b c d xs place = namedTo 0 (headerNamed kind a b c d) headerTo xs place
-
 -- the program's enums for what is named
 abbrev pub paperNumberNamed : program-number.NumberNamed → Option Number
 paperNumberNamed (n.Number x) = some (numberOf x)
@@ -78,10 +66,6 @@ paperNumberNamed n.Nothing = none
 abbrev pub paperUnder : ℕ → program-under.ContextTagNamed → Option Number
 paperUnder kind (c.ContextTag x) = some (numberUnder kind x)
 paperUnder kind c.Nothing = none
-
-abbrev pub paperHeaderNamed : program-header.HeaderNamed → Option Header
-paperHeaderNamed (h.Header x) = some (headerOf x)
-paperHeaderNamed h.Nothing = none
 
 -- that it is what class and number name for integers of every kind
 abbrev pub NamesUnder : program-under.ContextTagNamed → ℕ → ℕ → Type 0

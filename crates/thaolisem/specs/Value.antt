@@ -3,7 +3,7 @@
 use Prim.Native.Nat.{ℕ}
 use mathlib.Core.List.{List}
 use mathlib.Core.Option.{Option, none, some}
-use lib.Dec.{ltb, eqb}
+use lib.Dec.{eqb}
 use lib.ListN.{length}
 use lib.Ieee.{binary32, binary64, ofBits}
 use Rattle.types.specs.Choice.{if}
@@ -12,13 +12,9 @@ use Rattle.numbers.specs.Integer.{twosComplement}
 use Rattle.numbers.specs.Reading.{partAt}
 use Rattle.values.specs.Value.{Value, boolean, real, double, onDate, atTime, objectId, characterString, octetString, enumerated, bitString, unsignedInt, signedInt, date, time, valueOf}
 use Rattle.values.specs.Writing.{valueTo}
-use Rattle.thaolisem.specs.Named.{namedTo}
+use Rattle.thaolisem.specs.Named.{ifAtMost, namedTo}
 use Rattle.thaolisem.specs.declared.named.ValueNamed as program
 use Rattle.thaolisem.specs.declared.named.ValueNamed.the-variants as v
-
--- what is named where a number is at most so large
-abbrev pub ifAtMost : (most number : ℕ) → Option Value → Option Value
-ifAtMost most x named = if (ltb most x) none named
 
 unfoldable pub dateNamed : (year month day weekday : ℕ) → Option Value
 dateNamed y m d w = ifAtMost 65535 y (ifAtMost 255 m (ifAtMost 255 d (ifAtMost 255 w (some (onDate (date y m d w))))))

@@ -39,16 +39,16 @@ pub(crate) fn refused(refusal: Refusal, tags: usize) -> [u64; 8]
 {
     let n = refusal.number() as u64;
     match refusal.carried() {
-        Carried::Amount(amount) => [n, 0, amount as u64, 0, tags as u64, 0, 0, 0],
+        Carried::Amount(amount) => [n, 0, 0, amount as u64, 0, tags as u64, 0, 0],
         Carried::TagFound(tag) => {
             let number = tag.number;
             [
                 n,
+                0,
                 class_of(number),
                 number_in(number),
                 tag.value as u64,
                 tags as u64,
-                0,
                 0,
                 0,
             ]

@@ -47,11 +47,11 @@ fn told(answer: BodyRead) -> [u64; 8]
             tags,
         } => [
             0,
+            next as u64,
             start as u64,
             len as u64,
             number as u64,
             tags as u64,
-            next as u64,
             0,
             0,
         ],
@@ -69,7 +69,7 @@ pub extern "C" fn thaolisem_walk(buf: &[u8], place: usize, answer: &mut [u64; 8]
     let outcome = walked.outcome;
     match outcome {
         Outcome::Passed => {
-            *answer = [0, 0, 0, 0, tags as u64, 0, 0, 0];
+            *answer = [0, 0, tags as u64, 0, 0, 0, 0, 0];
         }
         Outcome::Refused(r) => {
             *answer = refused(r, tags);

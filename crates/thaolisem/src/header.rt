@@ -4,18 +4,14 @@ ghost use mathlib.Core.List.{[], _∷_};
 ghost use Rattle.headers.specs.Reading.{headerFrom};
 ghost use Rattle.headers.specs.Header.{headerOf};
 ghost use Rattle.thaolisem.specs.Told.{toldHeader, headerTold, toldWrite};
-ghost use Rattle.thaolisem.specs.Named.{paperHeaderNamed, headerNamed, headerNamedTo};
+ghost use Rattle.thaolisem.specs.Header.{headerNamedTo};
 use crate::answer::nothing_named;
 use crate::answer::refused;
 use crate::answer::written;
+use crate::kind::HeaderNamed;
+use crate::kind::header_named;
 use headers::Header;
 use headers::HeaderRead;
-
-// A header, or that numbers name none.
-enum HeaderNamed {
-    Header(Header),
-    Nothing,
-}
 
 // Tells the header at a place.
 #[no_mangle]
@@ -32,7 +28,7 @@ pub extern "C" fn thaolisem_decode_header(buf: &[u8], place: usize, answer: &mut
     }
 }
 
-// A header by its PDU type and its fields in their order, with the place after it.
+// A header by its PDU type and its fields in their order, after the place behind it.
 fn told(header: Header, next: usize) -> [u64; 8]
     ensures { λ r. ⌜ r ≡ headerTold (headerOf header) next ⌝ }
 {
@@ -61,16 +57,16 @@ fn told(header: Header, next: usize) -> [u64; 8]
 
 // A type, four fields and the place after them.
 fn eight(kind: u64, a: u8, b: u8, c: u8, d: u8, next: usize) -> [u64; 8]
-    ensures { λ r. ⌜ r ≡ 0 ∷ kind ∷ a ∷ b ∷ c ∷ d ∷ next ∷ 0 ∷ [] ⌝ }
+    ensures { λ r. ⌜ r ≡ 0 ∷ next ∷ kind ∷ a ∷ b ∷ c ∷ d ∷ 0 ∷ [] ⌝ }
 {
     [
         0,
+        next as u64,
         kind,
         a as u64,
         b as u64,
         c as u64,
         d as u64,
-        next as u64,
         0,
     ]
 }
@@ -79,10 +75,10 @@ fn eight(kind: u64, a: u8, b: u8, c: u8, d: u8, next: usize) -> [u64; 8]
 #[no_mangle]
 pub extern "C" fn thaolisem_encode_header(
     kind: u8,
-    a: u8,
-    b: u8,
-    c: u8,
-    d: u8,
+    a: u64,
+    b: u64,
+    c: u64,
+    d: u64,
     buf: &mut [u8],
     place: usize,
     answer: &mut [u64; 8],
@@ -97,33 +93,5 @@ pub extern "C" fn thaolisem_encode_header(
         HeaderNamed::Nothing => {
             *answer = written(nothing_named(0, buf, place));
         }
-    }
-}
-
-// The header that a PDU type and its fields name.
-fn header_named(kind: u8, a: u8, b: u8, c: u8, d: u8) -> HeaderNamed
-    ensures { λ r. ⌜ paperHeaderNamed r ≡ headerNamed kind a b c d ⌝ }
-{
-    match kind {
-        0 => HeaderNamed::Header(Header::ConfirmedRequest {
-            max_segments: a,
-            max_adpu: b,
-            invoke_id: c,
-            service_choice: d,
-        }),
-        2 => HeaderNamed::Header(Header::SimpleAck {
-            invoke_id: a,
-            service_choice: b,
-        }),
-        3 => HeaderNamed::Header(Header::ComplexAck {
-            invoke_id: a,
-            service_choice: b,
-        }),
-        4 => HeaderNamed::Header(Header::SegmentAck {
-            invoke_id: a,
-            sequence_num: b,
-            proposed_window_size: c,
-        }),
-        _ => HeaderNamed::Nothing,
     }
 }

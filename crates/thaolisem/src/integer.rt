@@ -29,7 +29,7 @@ pub extern "C" fn thaolisem_decode_unsigned(
 {
     match numbers::decode_unsigned(len, buf, place) {
         UnsignedRead::Unsigned(value, next) => {
-            *answer = [0, value, next as u64, 0, 0, 0, 0, 0];
+            *answer = [0, next as u64, value, 0, 0, 0, 0, 0];
         }
         UnsignedRead::Refused(r) => {
             *answer = refused(r, 0);
@@ -44,7 +44,7 @@ pub extern "C" fn thaolisem_decode_signed(len: u32, buf: &[u8], place: usize, an
 {
     match numbers::decode_signed(len, buf, place) {
         SignedRead::Signed(value, next) => {
-            *answer = [0, numbers::pattern(value), next as u64, 0, 0, 0, 0, 0];
+            *answer = [0, next as u64, numbers::pattern(value), 0, 0, 0, 0, 0];
         }
         SignedRead::Refused(r) => {
             *answer = refused(r, 0);

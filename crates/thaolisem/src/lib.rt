@@ -3,6 +3,7 @@ mod answer;
 mod body;
 mod header;
 mod integer;
+mod kind;
 mod named;
 mod tag;
 mod text;

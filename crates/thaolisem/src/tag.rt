@@ -29,10 +29,10 @@ pub extern "C" fn thaolisem_decode_tag(buf: &[u8], place: usize, answer: &mut [u
             let number = tag.number;
             *answer = [
                 0,
+                next as u64,
                 class_of(number),
                 number_in(number),
                 tag.value as u64,
-                next as u64,
                 0,
                 0,
                 0,

@@ -28,7 +28,7 @@ pub extern "C" fn thaolisem_decode_value(buf: &[u8], place: usize, answer: &mut 
     }
 }
 
-// A value by its case and its fields, with the place after it.
+// A value by its case and its fields, after the place behind it.
 fn told(value: ApplicationDataValue, next: usize) -> [u64; 8]
     ensures { λ r. ⌜ r ≡ valueTold (valueOf value) next ⌝ }
 {
@@ -68,14 +68,14 @@ fn told(value: ApplicationDataValue, next: usize) -> [u64; 8]
 
 // A case, four fields and the place after them.
 fn fields(case: u64, a: u64, b: u64, c: u64, d: u64, next: usize) -> [u64; 8]
-    ensures { λ r. ⌜ r ≡ 0 ∷ case ∷ a ∷ b ∷ c ∷ d ∷ next ∷ 0 ∷ [] ⌝ }
+    ensures { λ r. ⌜ r ≡ 0 ∷ next ∷ case ∷ a ∷ b ∷ c ∷ d ∷ 0 ∷ [] ⌝ }
 {
-    [0, case, a, b, c, d, next as u64, 0]
+    [0, next as u64, case, a, b, c, d, 0]
 }
 
 // A case, two fields and the place after them.
 fn two(case: u64, a: usize, b: u32, next: usize) -> [u64; 8]
-    ensures { λ r. ⌜ r ≡ 0 ∷ case ∷ a ∷ b ∷ 0 ∷ 0 ∷ next ∷ 0 ∷ [] ⌝ }
+    ensures { λ r. ⌜ r ≡ 0 ∷ next ∷ case ∷ a ∷ b ∷ 0 ∷ 0 ∷ 0 ∷ [] ⌝ }
 {
     fields(case, a as u64, b as u64, 0, 0, next)
 }

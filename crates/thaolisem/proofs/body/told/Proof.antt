@@ -7,8 +7,8 @@ use Rattle.thaolisem.proofs.body.told.Tie as tie
 enum-known-answer : tie.Need-enum-known-answer
 enum-known-answer c = search needs
 
-cast-t12 : tie.Need-cast-t12
-cast-t12 c = search needs
+cast-t13 : tie.Need-cast-t13
+cast-t13 c = search needs
 
 enum-known-answer-2 : tie.Need-enum-known-answer-2
 enum-known-answer-2 c = search needs
@@ -25,4 +25,4 @@ returns-2 c = simp (c .refused .ensures, c .before .before .answer2 .given .1)
 pub told-spec : {M : Type 1} → statement M
 told-spec =
     tie.close
-    (tie.spec enum-known-answer cast-t12 enum-known-answer-2 refused-requires returns returns-2)
+    (tie.spec enum-known-answer cast-t13 enum-known-answer-2 refused-requires returns returns-2)

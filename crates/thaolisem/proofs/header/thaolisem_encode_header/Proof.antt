@@ -3,7 +3,7 @@
 use borrow.Author.Needs.{needs}
 use mathlib.Core.Path.{sym, ap, _∙_}
 use Rattle.headers.specs.Writing.{headerTo}
-use Rattle.thaolisem.specs.Named.{paperHeaderNamed, headerNamedTo}
+use Rattle.thaolisem.specs.Header.{paperHeaderNamed, headerNamedTo}
 use Rattle.thaolisem.proofs.Written.{named-wrote, nothing-wrote}
 use Rattle.thaolisem.proofs.header.thaolisem_encode_header.Statement.{statement}
 use Rattle.thaolisem.proofs.header.thaolisem_encode_header.Tie as tie

@@ -18,8 +18,8 @@ class-of-requires c κs = search needs
 number-in-requires : tie.Need-number-in-requires
 number-in-requires c κs = search needs
 
-cast-t11 : tie.Need-cast-t11
-cast-t11 c = search needs
+cast-t12 : tie.Need-cast-t12
+cast-t12 c = search needs
 
 enum-known-r : tie.Need-enum-known-r
 enum-known-r c = search needs
@@ -41,7 +41,7 @@ thaolisem-decode-tag-spec =
     enum-known-tag
     class-of-requires
     number-in-requires
-    cast-t11
+    cast-t12
     enum-known-r
     refused-requires
     returns

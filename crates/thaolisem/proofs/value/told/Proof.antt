@@ -174,7 +174,7 @@ returns-12 c =
     let z = c .before .before .before .value12 .given .0 .0 in
     let e : toZ w64 (ofZ w64 z) ≡ z = toZ-ofZ w64 z (record { sfits = c .before .before .known-told12 .given .0 .1 }) in
     let p : c .before .pattern .result ≡ patternOf 8 z = c .before .pattern .ensures ∙ ap (patternOf 8) e in
-    c .fields9 .ensures ∙ ap (λ (n : ℕ). eight 0 12 n 0 0 0 (c .before .before .before .before .before .args .next) 0) p ∙ ap (λ (v : ApplicationDataValue). valueTold (valueOf v) (c .before .before .before .before .before .args .next)) (sym (c .before .before .before .value12 .given .1))
+    c .fields9 .ensures ∙ ap (λ (n : ℕ). eight 0 (c .before .before .before .before .before .args .next) 12 n 0 0 0 0) p ∙ ap (λ (v : ApplicationDataValue). valueTold (valueOf v) (c .before .before .before .before .before .args .next)) (sym (c .before .before .before .value12 .given .1))
 
 pub told-spec : {M : Type 1} → statement M
 told-spec =

@@ -1,0 +1,42 @@
+-- The header that a PDU type and its fields, in their order, name; a field that the type has not is not read, and one too large for its byte names nothing.
+-- Assumes nothing.
+use Prim.Native.Nat.{ℕ}
+use mathlib.Core.List.{List, [], _∷_}
+use mathlib.Core.Option.{Option, none, some}
+use lib.Dec.{eqb}
+use Rattle.types.specs.Choice.{if}
+use Rattle.types.specs.Writing.{Left}
+use Rattle.headers.specs.Header.{Header, header, request, simple, complex, segment, nibbles, number, choice, headerOf}
+use Rattle.headers.specs.Writing.{headerTo}
+use Rattle.thaolisem.specs.Named.{ifAtMost, namedTo}
+use Rattle.thaolisem.specs.declared.kind.HeaderNamed as program
+use Rattle.thaolisem.specs.declared.kind.HeaderNamed.the-variants as h
+
+unfoldable pub requestNamed : (segments size id service : ℕ) → Option Header
+requestNamed s m i c = ifAtMost 255 s (ifAtMost 255 m (ifAtMost 255 i (ifAtMost 255 c (some (header request (nibbles s m ∷ number i ∷ choice c ∷ []))))))
+
+unfoldable pub segmentNamed : (id sequence window : ℕ) → Option Header
+segmentNamed i s w = ifAtMost 255 i (ifAtMost 255 s (ifAtMost 255 w (some (header segment (number i ∷ number s ∷ number w ∷ [])))))
+
+-- a simple acknowledgement is of type 2, a complex one of type 3
+unfoldable pub acknowledgementNamed : (kind id service : ℕ) → Option Header
+acknowledgementNamed kind i c =
+    ifAtMost 255 i (ifAtMost 255 c
+    (if (eqb kind 2) (some (header simple (number i ∷ choice c ∷ [])))
+    (if (eqb kind 3) (some (header complex (number i ∷ choice c ∷ [])))
+    none)))
+
+unfoldable pub headerNamed : (kind first second third fourth : ℕ) → Option Header
+headerNamed kind a b c d =
+    if (eqb kind 0) (requestNamed a b c d)
+    (if (eqb kind 4) (segmentNamed a b c)
+    (acknowledgementNamed kind a b))
+
+-- what writing it at a place of a buffer answers and leaves
+unfoldable pub headerNamedTo : (kind first second third fourth : ℕ) → List ℕ → (place : ℕ) → Left
+headerNamedTo kind a b c d xs place = namedTo 0 (headerNamed kind a b c d) headerTo xs place
+
+-- the program's enum for it
+abbrev pub paperHeaderNamed : program.HeaderNamed → Option Header
+paperHeaderNamed (h.Header x) = some (headerOf x)
+paperHeaderNamed h.Nothing = none

@@ -1,0 +1,88 @@
+// The headers that a PDU type and its fields name.
+ghost use mathlib.Core.Path.{_≡_};
+ghost use Rattle.thaolisem.specs.Header.{paperHeaderNamed, requestNamed, acknowledgementNamed, segmentNamed, headerNamed};
+use headers::Header;
+
+// A header, or that numbers name none.
+pub(crate) enum HeaderNamed {
+    Header(Header),
+    Nothing,
+}
+
+// The header that a PDU type and its fields name; a field that the type has not is not read.
+pub(crate) fn header_named(kind: u8, a: u64, b: u64, c: u64, d: u64) -> HeaderNamed
+    ensures { λ r. ⌜ paperHeaderNamed r ≡ headerNamed kind a b c d ⌝ }
+{
+    match kind {
+        0 => request_named(a, b, c, d),
+        4 => segment_named(a, b, c),
+        _ => acknowledgement_named(kind, a, b),
+    }
+}
+
+// The request of so many segments, of a size, an invoke id and a service choice.
+fn request_named(segments: u64, size: u64, id: u64, choice: u64) -> HeaderNamed
+    ensures { λ r. ⌜ paperHeaderNamed r ≡ requestNamed segments size id choice ⌝ }
+{
+    if 255 < segments {
+        return HeaderNamed::Nothing;
+    }
+    if 255 < size {
+        return HeaderNamed::Nothing;
+    }
+    if 255 < id {
+        return HeaderNamed::Nothing;
+    }
+    if 255 < choice {
+        return HeaderNamed::Nothing;
+    }
+    HeaderNamed::Header(Header::ConfirmedRequest {
+        max_segments: segments as u8,
+        max_adpu: size as u8,
+        invoke_id: id as u8,
+        service_choice: choice as u8,
+    })
+}
+
+// The simple or complex acknowledgement of an invoke id and a service choice.
+fn acknowledgement_named(kind: u8, id: u64, service: u64) -> HeaderNamed
+    ensures { λ r. ⌜ paperHeaderNamed r ≡ acknowledgementNamed kind id service ⌝ }
+{
+    if 255 < id {
+        return HeaderNamed::Nothing;
+    }
+    if 255 < service {
+        return HeaderNamed::Nothing;
+    }
+    match kind {
+        2 => HeaderNamed::Header(Header::SimpleAck {
+            invoke_id: id as u8,
+            service_choice: service as u8,
+        }),
+        3 => HeaderNamed::Header(Header::ComplexAck {
+            invoke_id: id as u8,
+            service_choice: service as u8,
+        }),
+        _ => HeaderNamed::Nothing,
+    }
+}
+
+// The segment acknowledgement of an invoke id, a sequence number and a window size.
+fn segment_named(id: u64, sequence: u64, window: u64) -> HeaderNamed
+    ensures { λ r. ⌜ paperHeaderNamed r ≡ segmentNamed id sequence window ⌝ }
+{
+    if 255 < id {
+        return HeaderNamed::Nothing;
+    }
+    if 255 < sequence {
+        return HeaderNamed::Nothing;
+    }
+    if 255 < window {
+        return HeaderNamed::Nothing;
+    }
+    HeaderNamed::Header(Header::SegmentAck {
+        invoke_id: id as u8,
+        sequence_num: sequence as u8,
+        proposed_window_size: window as u8,
+    })
+}
