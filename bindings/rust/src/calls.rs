@@ -101,12 +101,12 @@ pub fn decode_value(buf: &[u8], place: usize) -> (Numbers, Option<&str>) {
     let told = unsafe {
         answer_of(|answer| thaolisem_decode_value(buf.as_ptr(), buf.len(), place, answer))
     };
-    if told[0] != 0 || told[2] != 7 {
+    let [first, _, case, start, len, ..] = told;
+    if first != 0 || case != 7 {
         return (told, None);
     }
     // Sound: the promise of an accepted text is that its bytes are UTF-8 (RFC 3629), which is what a `str` asks for.
-    let text =
-        part(buf, told[3], told[4]).map(|bytes| unsafe { core::str::from_utf8_unchecked(bytes) });
+    let text = part(buf, start, len).map(|bytes| unsafe { core::str::from_utf8_unchecked(bytes) });
     (told, text)
 }
 

@@ -109,7 +109,8 @@ impl Tag {
     pub fn decode(reader: &mut Reader, buf: &[u8]) -> Result<Self, Refusal> {
         let told = calls::decode_tag(reader.view(buf), reader.index);
         let next = accepted(&told)?;
-        let tag = Self::told(told[2], told[3], told[4]).ok_or(Refusal::UNNAMED)?;
+        let [_, _, class, number, value, ..] = told;
+        let tag = Self::told(class, number, value).ok_or(Refusal::UNNAMED)?;
         reader.index = next;
         Ok(tag)
     }

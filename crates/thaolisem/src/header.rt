@@ -28,7 +28,7 @@ pub extern "C" fn thaolisem_decode_header(buf: &[u8], place: usize, answer: &mut
     }
 }
 
-// A header by its PDU type and its fields in their order, after the place behind it.
+// A header by its PDU type and its fields in their order, with the place after it.
 fn told(header: Header, next: usize) -> [u64; 8]
     ensures { λ r. ⌜ r ≡ headerTold (headerOf header) next ⌝ }
 {

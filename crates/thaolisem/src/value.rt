@@ -28,7 +28,7 @@ pub extern "C" fn thaolisem_decode_value(buf: &[u8], place: usize, answer: &mut 
     }
 }
 
-// A value by its case and its fields, after the place behind it.
+// A value by its case and its fields, with the place after it.
 fn told(value: ApplicationDataValue, next: usize) -> [u64; 8]
     ensures { λ r. ⌜ r ≡ valueTold (valueOf value) next ⌝ }
 {
