@@ -7,4 +7,4 @@ mod words;
 pub use answering::answer_all;
 pub use parse::parse;
 pub use request::{Class, Header, Read, Request, Tag, TagName, Value, Write};
-pub use words::{hex, put_hex};
+pub use words::{hex, put_hex, Words};

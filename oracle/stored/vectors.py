@@ -1,7 +1,7 @@
 #!/usr/bin/env python3
-"""Writes the files stdin and stdout beside it: test vectors of UTF-8, and what the check has to say of each.
+"""Writes the file vectors.txt beside it: test vectors of UTF-8, and what the check has to say of each.
 
-Run it with no arguments, by Python 3, and commit both files. The vectors are lines of hexadecimal: the examples of
+Run it with no arguments, by Python 3, and commit the file. A line is a vector in hexadecimal, and its answer. They are the examples of
 RFC 3629 (sections 7 and 10) and of the Unicode Standard (chapter 3, "Ill-formed code unit sequences"), every boundary of
 the table of RFC 3629, section 4, sequences cut at every length, and places after characters of every length. The
 answers come from Python's own decoder: `good`, or `bad` and the start of the sequence that it cannot decode.
@@ -89,8 +89,5 @@ def answer(vector):
 
 
 vectors = list(dict.fromkeys([*map(bytes.fromhex, EXAMPLES), *boundaries(), *stray(), *placed()]))
-here = pathlib.Path(__file__).parent
-with open(here / "stdin", "w", encoding="ascii") as lines:
-    lines.writelines(f"{vector.hex().upper()}\n" for vector in vectors)
-with open(here / "stdout", "w", encoding="ascii") as lines:
+with open(pathlib.Path(__file__).parent / "vectors.txt", "w", encoding="ascii") as lines:
     lines.writelines(f"{vector.hex().upper()} {answer(vector)}\n" for vector in vectors)
