@@ -1,4 +1,4 @@
-// The requests of crates/replay/README.md as types, read from their lines; shared by all programs of the oracle.
+// The requests of oracle/words/README.md as types, read from their lines; shared by all programs of the oracle.
 mod answering;
 mod parse;
 mod request;
