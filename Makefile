@@ -20,9 +20,10 @@ test: kit
 words: lib
 	@oracle/build-words
 
-# The port, by the program in words, against the given Rust, 200,000 requests with a fixed seed.
+# The port, by the program in words, against the given Rust, 200,000 requests with a fixed seed; then the stored list in numbers against its sources.
 oracle: words
 	@oracle/compare 1 200000
+	@oracle/list
 
 # Wrong versions of the code, each tried with the prover (docs/MUTANTS.md); CRATES="numbers tags" tries those alone, PART=1/3 a third of them. It takes hours, and is no part of the gate.
 mutants: kit

@@ -17,7 +17,7 @@ pub use crate::calls::{
 /// Whether an answer is accepted, else its refusal.
 #[inline]
 pub fn accepted(told: &Numbers) -> Result<(), Refusal> {
-    answer::accepted(told)
+    answer::accepted(told).map(|_| ())
 }
 
 /// The value at a place.
