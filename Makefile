@@ -1,5 +1,5 @@
 # make run: apdu-dump on the samples. make test: the whole gate; any failing step ends it, and its last line is the toolchain's 'N passed, M failed' (check-slips says nothing where all is well).
-.PHONY: run test oracle lib programs apdu_dump replay mutants kit
+.PHONY: run test oracle words lib programs apdu_dump replay mutants kit
 
 run: apdu_dump
 	@bin/apdu-dump < samples/frames.txt
@@ -16,9 +16,14 @@ test: kit
 	@rt ci
 	@tools/check-slips
 
-# The port against the given Rust, 200,000 requests with a fixed seed.
-oracle: replay
+# The program in words, target/words/replay, over the static library; where there is no rustc it is left out, and said.
+words: lib
+	@oracle/build-words
+
+# The port, by the program in words, against the given Rust, 200,000 requests with a fixed seed; then the stored list in numbers against its sources.
+oracle: words
 	@oracle/compare 1 200000
+	@oracle/list
 
 # Wrong versions of the code, each tried with the prover (docs/MUTANTS.md); CRATES="numbers tags" tries those alone, PART=1/3 a third of them. It takes hours, and is no part of the gate.
 mutants: kit

@@ -1,4 +1,4 @@
-// The requests of crates/replay/README.md as types, read from their lines; shared by all programs of the oracle.
+// The requests of oracle/words/README.md as types, read from their lines; shared by all programs of the oracle.
 mod answering;
 mod parse;
 mod request;
@@ -7,4 +7,4 @@ mod words;
 pub use answering::answer_all;
 pub use parse::parse;
 pub use request::{Class, Header, Read, Request, Tag, TagName, Value, Write};
-pub use words::{hex, put_hex};
+pub use words::{hex, put_hex, Words};

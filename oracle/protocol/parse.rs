@@ -1,4 +1,4 @@
-// A request read from its line; none where replay answers `unknown`.
+// A request read from its line; none where the answer is `unknown`.
 use crate::request::{Class, Header, Read, Request, Tag, TagName, Value, Write};
 use crate::words::Words;
 

@@ -23,6 +23,6 @@ pub fn encode_context_bool(
     tag_number: u8,
     value: bool,
 ) -> Result<(), Refusal> {
-    let told = calls::encode_context_bool(tag_number, value, writer.buf, writer.index);
+    let told = calls::encode_context_bool(tag_number, value.into(), writer.buf, writer.index);
     writer.written(told)
 }

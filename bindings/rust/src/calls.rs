@@ -168,14 +168,12 @@ pub fn encode_enumerated(
     }
 }
 
-/// Writes a boolean under a context tag.
+/// Writes a boolean, 0 or 1, under a context tag.
 #[inline]
-pub fn encode_context_bool(number: u8, value: bool, buf: &mut [u8], place: usize) -> Numbers {
+pub fn encode_context_bool(number: u8, value: u8, buf: &mut [u8], place: usize) -> Numbers {
     let (bytes, len) = (buf.as_mut_ptr(), buf.len());
     unsafe {
-        answer_of(|answer| {
-            thaolisem_encode_context_bool(number, value.into(), bytes, len, place, answer)
-        })
+        answer_of(|answer| thaolisem_encode_context_bool(number, value, bytes, len, place, answer))
     }
 }
 

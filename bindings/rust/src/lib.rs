@@ -17,6 +17,7 @@ mod calls;
 mod declared;
 mod header;
 mod integers;
+pub mod raw;
 mod reader;
 mod service_choice;
 mod tag;

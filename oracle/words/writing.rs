@@ -1,23 +1,23 @@
-//! Writes, asked of this crate.
-use crate::{named, refused};
+//! Writes, asked of the crate.
+use crate::{named, raw, refused};
 use protocol::{put_hex, Write};
 use thaolisem::*;
 
-/// What a write answers, with the whole buffer; nothing where the types of this crate cannot say it, as text that is not UTF-8 and a choice above 33.
-pub fn answer(what: &Write, place: usize, capacity: usize) -> Option<String> {
+/// What a write answers, with the whole buffer.
+pub fn answer(what: &Write, place: usize, capacity: usize) -> String {
     let mut buf = vec![0xAA; capacity];
     let mut writer = Writer { buf: &mut buf, index: place };
-    let mut answer = match write(what, &mut writer)? {
+    let mut answer = match write(what, &mut writer) {
         Ok(()) => format!("ok {} ", writer.index),
         Err(_) if writer.index != place => "refused and the writer moved ".to_string(),
         Err(refusal) => format!("{} ", refused(refusal)),
     };
     put_hex(&buf, &mut answer);
-    Some(answer)
+    answer
 }
 
-fn write(what: &Write, writer: &mut Writer) -> Option<Result<(), Refusal>> {
-    Some(match what {
+fn write(what: &Write, writer: &mut Writer) -> Result<(), Refusal> {
+    match what {
         Write::Push(byte) => writer.push(*byte),
         Write::Extend(bytes) => writer.extend_from_slice(bytes),
         Write::Tag(tag) => Tag::new(named(tag.name), tag.value).encode(writer),
@@ -27,13 +27,20 @@ fn write(what: &Write, writer: &mut Writer) -> Option<Result<(), Refusal>> {
         Write::Unsigned(context, value) => encode_unsigned(writer, *context, *value),
         Write::Signed(context, value) => encode_signed(writer, *context, *value),
         Write::Enumerated(context, value) => encode_enumerated(writer, *value, *context),
-        Write::Value(value) => named_value(value)?.encode(writer),
-        Write::Header(header) => named_header(header)?.encode(writer),
-    })
+        Write::Value(value) => match named_value(value) {
+            Ok(value) => value.encode(writer),
+            Err(text) => raw::text(text, writer),
+        },
+        Write::Header(header) => match named_header(header) {
+            Some(header) => header.encode(writer),
+            None => raw::header(*header, writer),
+        },
+    }
 }
 
-fn named_value(value: &protocol::Value) -> Option<ApplicationDataValue<'_>> {
-    Some(match value {
+/// The crate's value; or the bytes of a text that no `str` can hold.
+fn named_value(value: &protocol::Value) -> Result<ApplicationDataValue<'_>, &[u8]> {
+    Ok(match value {
         protocol::Value::Boolean(x) => ApplicationDataValue::Boolean(*x),
         protocol::Value::Real(bits) => ApplicationDataValue::Real(f32::from_bits(*bits)),
         protocol::Value::Double(bits) => ApplicationDataValue::Double(f64::from_bits(*bits)),
@@ -48,7 +55,7 @@ fn named_value(value: &protocol::Value) -> Option<ApplicationDataValue<'_>> {
             ApplicationDataValue::ObjectId(ObjectId { object_type: *kind, instance: *instance })
         }
         protocol::Value::Text(bytes) => {
-            let inner = core::str::from_utf8(bytes).ok()?;
+            let inner = core::str::from_utf8(bytes).map_err(|_| &bytes[..])?;
             ApplicationDataValue::CharacterString(CharacterString { inner })
         }
         protocol::Value::Octets(inner) => ApplicationDataValue::OctetString(OctetString { inner }),
@@ -61,6 +68,7 @@ fn named_value(value: &protocol::Value) -> Option<ApplicationDataValue<'_>> {
     })
 }
 
+/// The crate's header; none where it has no name for the service choice.
 fn named_header(header: &protocol::Header) -> Option<Header> {
     let choice = |number: u8| ConfirmedServiceChoice::try_from(number).ok();
     Some(match *header {

@@ -1,4 +1,4 @@
-//! Reads, asked of this crate.
+//! Reads, asked of the crate.
 use crate::{named, printed, refused};
 use protocol::Read;
 use thaolisem::*;

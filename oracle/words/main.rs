@@ -1,5 +1,6 @@
-//! Answers the requests of the program replay by this crate, so that `oracle/compare` can hold the crate to the given Rust
-//! and to 01 read a second time: PORT=target/bindings/replay oracle/compare 1 20000
+//! The program in words: answers each request by the Rust crate over the static library, and by its raw calls where the crate's types cannot say what is asked.
+//! `oracle/compare` holds it to the given Rust and to 01 read a second time; nothing that it answers comes from there.
+mod raw;
 mod reading;
 mod writing;
 
@@ -9,10 +10,7 @@ use thaolisem::{Carried, Refusal, Tag, TagNumber};
 fn main() -> std::io::Result<()> {
     protocol::answer_all(|request| match request {
         Request::Read { what, place, buf } => reading::answer(what, buf, *place),
-        Request::Write { what, place, capacity } => {
-            // what the types of this crate cannot say is left to the reference
-            writing::answer(what, *place, *capacity).unwrap_or_else(|| reference::answer(request))
-        }
+        Request::Write { what, place, capacity } => writing::answer(what, *place, *capacity),
     })
 }
 
