@@ -1,30 +1,16 @@
-// The bytes of a line, a word of hexadecimal.
+// The bytes of a line: a word of hexadecimal, or so many bytes of a buffer to be written.
 ghost use Prim.Native.Nat.{_≤_};
 ghost use lib.ListN.{length};
 use crate::number::digit;
+use crate::number::digits;
+use crate::words::Found;
 use crate::words::NOWHERE;
-use crate::words::dash_end;
-use crate::words::word_behind;
-
-// How many bytes a word of hexadecimal stands for, and where it ends.
-pub(crate) struct BytesFound {
-    pub count: usize,
-    pub end: usize,
-}
-
-// No bytes.
-fn no_bytes() -> BytesFound
-    ensures { λ r. ⌜ r .count ≤ 0 ⌝ }
-{
-    BytesFound {
-        count: 0,
-        end: NOWHERE,
-    }
-}
+use crate::words::behind;
+use crate::words::nothing;
 
 // Puts the bytes that the digits from a place on stand for at the start of the buffer.
-fn pairs(line: &[u8], start: usize, buf: &mut [u8]) -> BytesFound
-    ensures { λ r. ⌜ r .count ≤ length (now (buf .exit)) ⌝ }
+fn pairs(line: &[u8], start: usize, buf: &mut [u8]) -> Found
+    ensures { λ r. ⌜ r .value ≤ length (now (buf .exit)) ⌝ }
 {
     let mut count = 0;
     let mut at = start;
@@ -33,40 +19,62 @@ fn pairs(line: &[u8], start: usize, buf: &mut [u8]) -> BytesFound
             break;
         }
         if line.len() - at < 2 {
-            return no_bytes();
+            return nothing();
         }
-        let high = digit(line[at]);
-        let low = digit(line[at + 1]);
-        if 15 < high {
-            return no_bytes();
-        }
-        if 15 < low {
-            return no_bytes();
+        let byte = digit(line[at]) * 16 + digit(line[at + 1]);
+        if 255 < byte {
+            return nothing();
         }
         if buf.len() <= count {
-            return no_bytes();
+            return nothing();
         }
-        buf[count] = (high * 16 + low) as u8;
+        buf[count] = byte as u8;
         count += 1;
         at += 2;
     }
     if count == 0 {
-        return no_bytes();
+        return nothing();
     }
-    BytesFound { count, end: at }
+    Found {
+        value: count as u64,
+        end: at,
+    }
+}
+
+// Puts AA into every byte of a buffer.
+fn fill(buf: &mut [u8]) {
+    let mut done = 0;
+    while done < buf.len() {
+        buf[done] = 0xAA;
+        done += 1;
+    }
 }
 
 // Puts the bytes that the hexadecimal behind a place stands for at the start of the buffer; a dash stands for none.
-pub(crate) fn bytes(line: &[u8], from: usize, buf: &mut [u8]) -> BytesFound
-    ensures { λ r. ⌜ r .count ≤ length (now (buf .exit)) ⌝ }
+pub(crate) fn bytes(line: &[u8], from: usize, buf: &mut [u8]) -> Found
+    ensures { λ r. ⌜ r .value ≤ length (now (buf .exit)) ⌝ }
 {
-    let start = word_behind(line, from);
-    let dash = dash_end(line, start);
-    if dash != NOWHERE {
-        return BytesFound {
-            count: 0,
-            end: dash,
-        };
+    let start = behind(b' ', line, from);
+    let end = behind(b'-', line, start);
+    if end != NOWHERE {
+        return Found { value: 0, end };
     }
     pairs(line, start, buf)
+}
+
+// The same for a buffer to be written, where an at sign and a number stand for so many bytes of AA too.
+pub(crate) fn lent_bytes(line: &[u8], from: usize, buf: &mut [u8]) -> Found
+    ensures { λ r. ⌜ r .value ≤ length (now (buf .exit)) ⌝ }
+{
+    let sign = behind(b'@', line, behind(b' ', line, from));
+    if sign == NOWHERE {
+        return bytes(line, from, buf);
+    }
+    let found = digits(70000, line, sign);
+    let count = found.value as usize;
+    if buf.len() < count {
+        return nothing();
+    }
+    fill(&mut buf[0..count]);
+    found
 }

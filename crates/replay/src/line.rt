@@ -1,107 +1,67 @@
 // Answers a line: takes it apart, calls, and puts the answer into the text.
-ghost use Prim.Native.Nat.{_≤_};
-ghost use lib.ListN.{length};
-use crate::answer::Answer;
-use crate::bytes::bytes;
-use crate::number::number;
-use crate::read::read_asked;
-use crate::read::read_named;
-use crate::reading::answer_of;
-use crate::text::put_answer;
-use crate::words::NOWHERE;
-use crate::write::write_asked;
-use crate::writing::answer_to;
+use crate::asked::arguments;
+use crate::exported;
+use crate::inner;
+use crate::number::word;
+use crate::part::put_part;
+use crate::text::put;
+use crate::text::put_bytes;
+use crate::text::put_numbers;
+use crate::words::named_by;
 
 // The most characters of a line.
 const LONGEST_LINE: usize = 140000;
 
-// The most bytes of a buffer to write into.
-const LARGEST_CAPACITY: u64 = 70000;
-
-// The largest number of 64 bits.
-const LARGEST: u64 = 18446744073709551615;
-
-// An answer, and how many bytes the buffer has that it is about.
-struct Told {
-    pub answer: Answer,
-    pub count: usize,
-}
-
-// The answer to a line that is no request.
-fn unknown() -> Told
-    ensures { λ r. ⌜ r .count ≤ 0 ⌝ }
-{
-    Told {
-        answer: Answer::new(b"unknown"),
-        count: 0,
+// What the call of a function but the last answers.
+fn answer_of(function: usize, n: [u64; 6], content: &[u8], buf: &mut [u8]) -> [u64; 8] {
+    let mut answer = [0u64; 8];
+    match function {
+        0..=8 => {
+            exported::read(function, n, content, &mut answer);
+            answer
+        }
+        9..=14 => inner::read(function, n, content),
+        15..=21 => {
+            exported::write(function, n, content, buf, &mut answer);
+            answer
+        }
+        _ => inner::write(function, n, content, buf),
     }
 }
 
-// The answer to a line that names that read, with its bytes put into the buffer.
-fn told_by_read(name: usize, line: &[u8], buf: &mut [u8]) -> Told
-    ensures { λ r. ⌜ r .count ≤ length (now (buf .exit)) ⌝ }
-{
-    let asked = read_asked(name, line);
-    let place = number(LARGEST, line, asked.end);
-    let found = bytes(line, place.end, buf);
-    if found.end != line.len() {
-        return unknown();
-    }
-    let read = asked.read;
-    let count = found.count;
-    let answer = answer_of(read, &buf[0..count], place.value as usize);
-    Told { answer, count }
-}
-
-// The answer to a line that names no read, with what it writes in the buffer.
-fn told_by_write(line: &[u8], content: &mut [u8], buf: &mut [u8]) -> Told
-    ensures { λ r. ⌜ r .count ≤ length (now (buf .exit)) ⌝ }
-{
-    let asked = write_asked(line, content);
-    let place = number(LARGEST, line, asked.end);
-    let capacity = number(LARGEST_CAPACITY, line, place.end);
-    if capacity.end != line.len() {
-        return unknown();
-    }
-    let count = capacity.value as usize;
-    if buf.len() < count {
-        return unknown();
-    }
-    let write = asked.write;
-    let lent = asked.content;
-    let answer = answer_to(
-        write,
-        &content[0..lent],
-        &mut buf[0..count],
-        place.value as usize,
-    );
-    Told { answer, count }
-}
-
-// The answer to a line.
-fn told_by(line: &[u8], content: &mut [u8], buf: &mut [u8]) -> Told
-    ensures { λ r. ⌜ r .count ≤ length (now (buf .exit)) ⌝ }
-{
-    if LONGEST_LINE < line.len() {
-        return unknown();
-    }
-    let name = read_named(line);
-    if name == NOWHERE {
-        return told_by_write(line, content, buf);
-    }
-    told_by_read(name, line, buf)
-}
-
-// Puts the answer to a line.
-pub(crate) fn put_line(
-    line: &[u8],
-    content: &mut [u8],
+// Puts what the call of a function answers, and behind it what was lent to be written.
+fn put_answer(
+    function: usize,
+    n: [u64; 6],
+    content: &[u8],
     buf: &mut [u8],
     text: &mut [u8],
-    at: usize,
 ) -> usize {
-    let told = told_by(line, content, buf);
-    let answer = told.answer;
-    let count = told.count;
-    put_answer(answer, &buf[0..count], text, at)
+    if function == 26 {
+        return put_part(word(n[0]), content, n[1] as usize, text, 0);
+    }
+    let answer = answer_of(function, n, content, buf);
+    let end = put_numbers(answer, text, 0);
+    if function < 15 {
+        return end;
+    }
+    put_bytes(buf, text, end)
+}
+
+// Puts the answer to a line. In the table the kinds of its arguments follow each function's name; its rows begin with the functions 0, 9, 15 and 22.
+pub(crate) fn put_line(line: &[u8], content: &mut [u8], buf: &mut [u8], text: &mut [u8]) -> usize {
+    let table =
+        b"decode_tag rn decode_unsigned wrn decode_signed wrn get_tagged_body nrn get_tagged_body_for_tag bnrn walk rn decode_value rn decode_header rn check_utf8 r \
+          read_byte rn read_bytes brn read_slice wrn decode_expected bbrn expect_number bbrn expect_value wrn \
+          encode_tag bbwln encode_unsigned bbnln encode_signed bbsln encode_enumerated bbnln encode_context_bool bbln encode_value bnnnnrln encode_header bnnnnln \
+          push bln encode_opening_tag bln encode_closing_tag bln extend_from_slice rln part wrn";
+    let name = named_by(table, line);
+    let asked = arguments(table, name.kinds, line, content, buf);
+    let n = asked.numbers;
+    let read = asked.read;
+    let lent = asked.lent;
+    if line.len() <= LONGEST_LINE && asked.end == line.len() && inner::names(name.function, n) {
+        return put_answer(name.function, n, &content[0..read], &mut buf[0..lent], text);
+    }
+    put(b"unknown", text, 0)
 }

@@ -1,8 +1,7 @@
 // Answers the call for a part of the buffer, whose answer holds the part: each function that has one is proved by hand, so one alone takes it apart.
-use crate::answer::Answer;
-use crate::answer::Shown;
-use crate::text::put_digits;
-use crate::text::put_words;
+use crate::text::put_bytes;
+use crate::text::put_numbers;
+use crate::told;
 use numbers::SliceRead;
 
 // Puts what the call for the part of that length from a place on answers.
@@ -11,21 +10,8 @@ pub(crate) fn put_part(len: u32, buf: &[u8], place: usize, text: &mut [u8], at: 
     put_read(read.outcome, read.bytes, text, at)
 }
 
-// Puts whether there is a part, and the bytes that are handed over; a dash for a part of none.
+// Puts whether there is a part, and the bytes that are handed over.
 fn put_read(outcome: SliceRead, bytes: &[u8], text: &mut [u8], at: usize) -> usize {
-    match outcome {
-        SliceRead::Slice {
-            start: _,
-            len: _,
-            next: _,
-        } => {
-            let words = Answer::new(b"ok").showing(bytes.len(), Shown::Nothing);
-            let behind = put_words(words, text, at);
-            put_digits(bytes, text, behind)
-        }
-        SliceRead::Refused(refusal) => {
-            let behind = put_words(Answer::refused(refusal), text, at);
-            put_digits(bytes, text, behind)
-        }
-    }
+    let behind = put_numbers(told::slice(outcome), text, at);
+    put_bytes(bytes, text, behind)
 }

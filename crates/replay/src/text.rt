@@ -1,8 +1,5 @@
 // Puts bytes into a lent text from a place on, and answers the place behind them. Where they have no room nothing is put:
 // the text is long enough for every answer.
-use crate::answer::Answer;
-use crate::answer::Shown;
-use crate::part::put_part;
 
 // Puts bytes.
 pub(crate) fn put(bytes: &[u8], text: &mut [u8], at: usize) -> usize {
@@ -20,58 +17,37 @@ pub(crate) fn put(bytes: &[u8], text: &mut [u8], at: usize) -> usize {
     at + done
 }
 
-// The hexadecimal digit of a number below 16.
-fn digit(number: u8) -> u8 {
-    match number {
-        0..=9 => number + b'0',
-        10..=15 => number - 10 + b'a',
-        _ => b'?',
-    }
+// Puts a number in decimal.
+fn put_number(number: u64, text: &mut [u8], at: usize) -> usize {
+    let mut digits = [0u8; 20];
+    let count = io::decimal(number, &mut digits);
+    put(&digits[0..count], text, at)
 }
 
-// Puts the two hexadecimal digits of each byte.
-pub(crate) fn put_digits(bytes: &[u8], text: &mut [u8], at: usize) -> usize {
-    if text.len() < at {
-        return at;
-    }
-    if (text.len() - at) / 2 < bytes.len() {
-        return at;
-    }
-    let mut end = at;
-    let mut done = 0;
-    while done < bytes.len() {
-        let byte = bytes[done];
-        text[end] = digit(byte / 16);
-        text[end + 1] = digit(byte % 16);
-        end += 2;
+// Puts the eight numbers, with a space between two.
+pub(crate) fn put_numbers(numbers: [u64; 8], text: &mut [u8], at: usize) -> usize {
+    let mut end = put_number(numbers[0], text, at);
+    let mut done = 1;
+    while done < 8 {
+        let behind = put(b" ", text, end);
+        end = put_number(numbers[done], text, behind);
         done += 1;
     }
     end
 }
 
-// Puts what stands behind an answer's words.
-fn put_shown(shown: Shown, buf: &[u8], text: &mut [u8], at: usize) -> usize {
-    match shown {
-        Shown::Nothing => at,
-        Shown::Part(len, place) => put_part(len, buf, place, text, at),
-        Shown::All => put_digits(buf, text, at),
+// Puts a space and bytes in hexadecimal; a dash for none.
+pub(crate) fn put_bytes(bytes: &[u8], text: &mut [u8], at: usize) -> usize {
+    if bytes.len() == 0 {
+        return put(b" -", text, at);
     }
-}
-
-// Puts an answer's words.
-pub(crate) fn put_words(answer: Answer, text: &mut [u8], at: usize) -> usize {
-    let held = answer.words;
-    let words: &[u8] = &held;
-    let len = answer.len;
-    if words.len() < len {
-        return at;
+    let mut digits = [0u8; 16];
+    let mut end = put(b" ", text, at);
+    let mut done = 0;
+    while done < bytes.len() {
+        let count = io::hex(bytes[done] as u64, 2, &mut digits);
+        end = put(&digits[0..count], text, end);
+        done += 1;
     }
-    put(&words[0..len], text, at)
-}
-
-// Puts an answer, with what stands behind its words.
-pub(crate) fn put_answer(answer: Answer, buf: &[u8], text: &mut [u8], at: usize) -> usize {
-    let shown = answer.shown;
-    let behind = put_words(answer, text, at);
-    put_shown(shown, buf, text, behind)
+    end
 }

@@ -1,16 +1,38 @@
-// Takes a line apart. Each of these takes the word behind the place where another ended, and answers where it ends itself;
-// where that word is not what is asked for they answer NOWHERE, behind which no word stands either.
+// Takes a line apart. What takes a word begins at the place where the word before it ended, and answers where its own ends;
+// where that word is not what is asked for it answers NOWHERE, behind which no word stands either.
 ghost use Prim.Native.Nat.{_≤_};
 
 // A place past every line.
 pub(crate) const NOWHERE: usize = 18446744073709551615;
 
-// Where the word behind a place begins.
-pub(crate) fn word_behind(line: &[u8], from: usize) -> usize {
+// A number, or how many bytes there are, and where its word ends.
+pub(crate) struct Found {
+    pub value: u64,
+    pub end: usize,
+}
+
+// Which function a line names, counted from 0, and where the kinds of its arguments begin in the table.
+pub(crate) struct Named {
+    pub function: usize,
+    pub kinds: usize,
+}
+
+// No word of the kind that is asked for.
+pub(crate) fn nothing() -> Found
+    ensures { λ r. ⌜ r .value ≤ 0 ⌝ }
+{
+    Found {
+        value: 0,
+        end: NOWHERE,
+    }
+}
+
+// The place behind that byte, where it stands at a place.
+pub(crate) fn behind(byte: u8, line: &[u8], from: usize) -> usize {
     if line.len() <= from {
         return NOWHERE;
     }
-    if line[from] != b' ' {
+    if line[from] != byte {
         return NOWHERE;
     }
     from + 1
@@ -30,49 +52,38 @@ pub(crate) fn word_end(line: &[u8], start: usize) -> usize
     at
 }
 
-// Whether the words that begin at these places of two lines are one.
-fn same_word(names: &[u8], from: usize, line: &[u8], start: usize) -> bool {
-    let end = word_end(names, from);
+// Whether the word that begins at a place of the table is the first of a line.
+fn begins_with(table: &[u8], from: usize, line: &[u8]) -> bool {
     let mut at = from;
-    let mut other = start;
-    while at < end {
-        if names.len() <= at {
-            return false;
+    let mut end = 0;
+    while at < table.len() {
+        if table[at] == b' ' {
+            break;
         }
-        if line.len() <= other {
-            return false;
-        }
-        if names[at] != line[other] {
-            return false;
-        }
+        end = behind(table[at], line, end);
         at += 1;
-        other += 1;
     }
-    other == word_end(line, start)
+    end == word_end(line, 0)
 }
 
-// Which of the names is the word that begins at a place, counted from 0; NOWHERE if it is none.
-pub(crate) fn name_at(names: &[u8], line: &[u8], start: usize) -> usize {
+// The function of the table that the first word of a line names; NOWHERE where it names none.
+pub(crate) fn named_by(table: &[u8], line: &[u8]) -> Named {
     let mut from = 0;
-    let mut passed = 0;
-    while from < names.len() {
-        if same_word(names, from, line, start) {
-            return passed;
+    let mut function = 0;
+    while from < table.len() {
+        let kinds = behind(b' ', table, word_end(table, from));
+        if begins_with(table, from, line) {
+            return Named { function, kinds };
         }
-        let end = word_end(names, from);
-        if names.len() <= end {
-            return NOWHERE;
+        let next = behind(b' ', table, word_end(table, kinds));
+        if next <= from {
+            break;
         }
-        from = end + 1;
-        passed += 1;
+        from = next;
+        function += 1;
     }
-    NOWHERE
-}
-
-// Where the word that begins at a place ends, if it is the dash.
-pub(crate) fn dash_end(line: &[u8], start: usize) -> usize {
-    if name_at(b"-", line, start) == 0 {
-        return word_end(line, start);
+    Named {
+        function: NOWHERE,
+        kinds: NOWHERE,
     }
-    NOWHERE
 }

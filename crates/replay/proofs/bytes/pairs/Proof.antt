@@ -23,8 +23,8 @@ shared-slice-read-if1 c = search needs
 sub-if2 : tie.Need-sub-if2 Inv-loop μ-loop
 sub-if2 c = search needs
 
-no-bytes-requires : tie.Need-no-bytes-requires Inv-loop μ-loop
-no-bytes-requires c κs = search needs
+nothing-requires : tie.Need-nothing-requires Inv-loop μ-loop
+nothing-requires c κs = search needs
 
 same-length : tie.Need-same-length Inv-loop μ-loop
 same-length c = search needs
@@ -38,6 +38,9 @@ shared-slice-read-digit c = search needs
 digit-requires : tie.Need-digit-requires Inv-loop μ-loop
 digit-requires c κs = search needs
 
+mul-byte : tie.Need-mul-byte Inv-loop μ-loop
+mul-byte c = search needs
+
 add-digit : tie.Need-add-digit Inv-loop μ-loop
 add-digit c = search needs
 
@@ -47,8 +50,11 @@ shared-slice-read-digit-2 c = search needs
 digit-requires-2 : tie.Need-digit-requires-2 Inv-loop μ-loop
 digit-requires-2 c κs = search needs
 
-no-bytes-requires-2 : tie.Need-no-bytes-requires-2 Inv-loop μ-loop
-no-bytes-requires-2 c κs = search needs
+add-byte : tie.Need-add-byte Inv-loop μ-loop
+add-byte c = search needs
+
+nothing-requires-2 : tie.Need-nothing-requires-2 Inv-loop μ-loop
+nothing-requires-2 c κs = search needs
 
 same-length-2 : tie.Need-same-length-2 Inv-loop μ-loop
 same-length-2 c = search needs
@@ -56,29 +62,14 @@ same-length-2 c = search needs
 returns-2 : tie.Need-returns-2 Inv-loop μ-loop
 returns-2 c = search needs
 
-no-bytes-requires-3 : tie.Need-no-bytes-requires-3 Inv-loop μ-loop
-no-bytes-requires-3 c κs = search needs
+nothing-requires-3 : tie.Need-nothing-requires-3 Inv-loop μ-loop
+nothing-requires-3 c κs = search needs
 
 same-length-3 : tie.Need-same-length-3 Inv-loop μ-loop
 same-length-3 c = search needs
 
 returns-3 : tie.Need-returns-3 Inv-loop μ-loop
 returns-3 c = search needs
-
-no-bytes-requires-4 : tie.Need-no-bytes-requires-4 Inv-loop μ-loop
-no-bytes-requires-4 c κs = search needs
-
-same-length-4 : tie.Need-same-length-4 Inv-loop μ-loop
-same-length-4 c = search needs
-
-returns-4 : tie.Need-returns-4 Inv-loop μ-loop
-returns-4 c = search needs
-
-mul-buf : tie.Need-mul-buf Inv-loop μ-loop
-mul-buf c = search needs
-
-add-buf : tie.Need-add-buf Inv-loop μ-loop
-add-buf c = search needs
 
 cast-buf : tie.Need-cast-buf Inv-loop μ-loop
 cast-buf c = search needs
@@ -98,20 +89,20 @@ loop-less c = search needs
 loop-again : tie.Need-loop-again Inv-loop μ-loop
 loop-again c = simp length-set (omega arith)
 
-no-bytes-requires-5 : tie.Need-no-bytes-requires-5 Inv-loop μ-loop
-no-bytes-requires-5 c κs = search needs
+nothing-requires-4 : tie.Need-nothing-requires-4 Inv-loop μ-loop
+nothing-requires-4 c κs = search needs
+
+same-length-4 : tie.Need-same-length-4 Inv-loop μ-loop
+same-length-4 c = search needs
+
+returns-4 : tie.Need-returns-4 Inv-loop μ-loop
+returns-4 c = search needs
 
 same-length-5 : tie.Need-same-length-5 Inv-loop μ-loop
 same-length-5 c = search needs
 
 returns-5 : tie.Need-returns-5 Inv-loop μ-loop
 returns-5 c = search needs
-
-same-length-6 : tie.Need-same-length-6 Inv-loop μ-loop
-same-length-6 c = search needs
-
-returns-6 : tie.Need-returns-6 Inv-loop μ-loop
-returns-6 c = search needs
 
 pub pairs-spec : {M : Type 1} → statement M
 pairs-spec =
@@ -122,33 +113,30 @@ pairs-spec =
     loop-holds
     shared-slice-read-if1
     sub-if2
-    no-bytes-requires
+    nothing-requires
     same-length
     returns
     shared-slice-read-digit
     digit-requires
+    mul-byte
     add-digit
     shared-slice-read-digit-2
     digit-requires-2
-    no-bytes-requires-2
+    add-byte
+    nothing-requires-2
     same-length-2
     returns-2
-    no-bytes-requires-3
+    nothing-requires-3
     same-length-3
     returns-3
-    no-bytes-requires-4
-    same-length-4
-    returns-4
-    mul-buf
-    add-buf
     cast-buf
     slice-write-buf
     add-count
     add-at
     loop-less
     loop-again
-    no-bytes-requires-5
+    nothing-requires-4
+    same-length-4
+    returns-4
     same-length-5
-    returns-5
-    same-length-6
-    returns-6)
+    returns-5)

@@ -5,8 +5,8 @@ use mathlib.Core.Path.{_≡_}
 use Prim.Native.Nat.{_-_}
 use lib.ListN.{length, length-set}
 use native.Mathlib.Omega.{arith}
-use Rattle.replay.proofs.writing.fill.Statement.{statement}
-use Rattle.replay.proofs.writing.fill.Tie as tie
+use Rattle.replay.proofs.bytes.fill.Statement.{statement}
+use Rattle.replay.proofs.bytes.fill.Tie as tie
 
 abbrev Inv-loop : tie.InvT-loop
 Inv-loop buf₀ done₀ buf done = length buf ≡ length buf₀
