@@ -1,9 +1,8 @@
 -- What is written reads back: every tag that can be carried, and every integer under every tag that its writer takes.
 -- Assumes nothing.
-use mathlib.Core.Path.{_≡_, _∙_, ap, ap₂, sym, subst}
+use mathlib.Core.Path.{_≡_, _∙_, ap, ap₂, sym, subst, subst₂}
 use Prim.Native.Nat.{ℕ, _+_, _*_, _^_, _<_, _≤_}
 use native.Mathlib.Omega.{arith}
-use native.Mathlib.Decide.{decLt}
 use mathlib.Core.List.{List, [], _∷_, _++_, append-assoc}
 use lib.IntN.{ℤ}
 use lib.Signed.{mag}
@@ -22,28 +21,19 @@ use Rattle.tags.specs.Reading.{tagFrom}
 use Rattle.tags.specs.Header.{classBit, numberField, lowBits, TellsValue, inline, one, two, four, IsTag, ofApplication, ofLongContext, ofContext, ofOpening, ofClosing}
 use Rattle.tags.specs.Writing.{lowBitsFor, tagValueBytes, numberBytes, tagBytes, writableTag, tagTo}
 use Rattle.tags.specs.Item.{itemBytes, itemTo}
+use Rattle.tags.proofs.BySize.{split, to-four, from-five, low-lt, few, alone, in-two, in-four}
 use Rattle.tags.proofs.Exactly.{tag-read}
 use Rattle.tags.proofs.Range.{InRange}
-
--- below, or not
-pub split : {A : Type 0} (m n : ℕ) → (m < n → A) → (n ≤ m → A) → A
-split {A} m n f g = go (decLt m n)
-  where
-    go : Dec (m < n) → A
-    go (yes h) = f h
-    go (no h) = g (omega arith)
-
-pub low-lt : (v : ℕ) → lowBitsFor v < 6
-low-lt v = split v 5 (λ h. simp (lt-ltb v 5 h) (omega arith)) (λ h. simp (le-ltb v 5 h) (omega arith))
 
 -- the low bits and the bytes that are written for a value tell it
 value-told : (v : ℕ) → v < 2 ^ 32 → TellsValue (lowBitsFor v) v (tagValueBytes v)
 value-told v k =
-    split v 5 (λ h. simp (lt-ltb v 5 h) (inline h)) (λ h.
-    split v 254 (λ h₂. simp (le-ltb v 5 h, lt-ltb v 254 h₂) (one {b = v} (omega arith) (omega arith))) (λ h₂.
+    split v 5 (λ h. subst₂ (λ (low : ℕ) (bs : List ℕ). TellsValue low v bs) (to-four v h) (sym (few v h)) (inline h)) (λ h.
+    subst (λ (low : ℕ). TellsValue low v (tagValueBytes v)) (from-five v h)
+    (split v 254 (λ k₂. subst (TellsValue 5 v) (sym (alone v h k₂)) (one {b = v} (omega arith) (omega arith))) (λ k₂.
     split v 65536
-    (λ h₃. simp (le-ltb v 5 h, le-ltb v 254 h₂, lt-ltb v 65536 h₃) (subst (λ (x : ℕ). TellsValue 5 x (254 ∷ lowBytes 2 v)) (low-bytes-stand 2 v h₃) (two (lowBytes 2 v) (low-bytes-length 2 v))))
-    (λ h₃. simp (le-ltb v 5 h, le-ltb v 254 h₂, le-ltb v 65536 h₃) (subst (λ (x : ℕ). TellsValue 5 x (255 ∷ lowBytes 4 v)) (low-bytes-stand 4 v k) (four (lowBytes 4 v) (low-bytes-length 4 v))))))
+    (λ k₃. subst₂ (TellsValue 5) (low-bytes-stand 2 v k₃) (sym (in-two v k₂ k₃)) (two (lowBytes 2 v) (low-bytes-length 2 v)))
+    (λ k₃. subst₂ (TellsValue 5) (low-bytes-stand 4 v k) (sym (in-four v k₃)) (four (lowBytes 4 v) (low-bytes-length 4 v))))))
 
 -- what the first byte says: its class, its number field and its low bits
 application-bits : (n low : ℕ) → low < 8 → (classBit (n * 16 + low) ≡ 0) × (numberField (n * 16 + low) ≡ n) × (lowBits (n * 16 + low) ≡ low)

@@ -15,30 +15,8 @@ use Rattle.tags.specs.Header.{classBit, numberField, lowBits, TellsValue
 use Rattle.tags.specs.Writing.{lowBitsFor, tagValueBytes, contextBytes, numberBytes, tagBytes}
 use Rattle.tags.specs.Form.{StandsFor, zeroLow, firstLow, Form}
 use Rattle.tags.proofs.Range.{InRange}
-use Rattle.tags.proofs.Back.{split, low-lt, header-is-tag}
-
--- the bytes that are written for a value, by how large it is
-few : (v : ℕ) → v < 5 → tagValueBytes v ≡ []
-few v h = simp (lt-ltb v 5 h)
-
-alone : (v : ℕ) → 5 ≤ v → v < 254 → tagValueBytes v ≡ v ∷ []
-alone v h k = simp (le-ltb v 5 h, lt-ltb v 254 k)
-
-in-two : (v : ℕ) → 254 ≤ v → v < 65536 → tagValueBytes v ≡ 254 ∷ lowBytes 2 v
-in-two v h k = simp (le-ltb v 5 (omega arith), le-ltb v 254 h, lt-ltb v 65536 k)
-
-in-four : (v : ℕ) → 65536 ≤ v → tagValueBytes v ≡ 255 ∷ lowBytes 4 v
-in-four v h = simp (le-ltb v 5 (omega arith), le-ltb v 254 (omega arith), le-ltb v 65536 h)
-
--- and how many they are at the most
-most-one : (v : ℕ) → v < 254 → length (tagValueBytes v) ≤ 1
-most-one v h = split v 5 (λ k. omega (arith, ap length (few v k))) (λ k. omega (arith, ap length (alone v k h)))
-
-most-three : (v : ℕ) → v < 65536 → length (tagValueBytes v) ≤ 3
-most-three v h = split v 254 (λ k. omega (arith, most-one v k)) (λ k. omega (arith, ap length (in-two v k h)))
-
-most-five : (v : ℕ) → length (tagValueBytes v) ≤ 5
-most-five v = split v 65536 (λ h. omega (arith, most-three v h)) (λ h. omega (arith, ap length (in-four v h)))
+use Rattle.tags.proofs.BySize.{split, to-four, from-five, low-lt, few, alone, in-two, in-four, most-one, most-three, most-five}
+use Rattle.tags.proofs.Back.{header-is-tag}
 
 two-below : (bytes : List ℕ) → length bytes ≡ 2 → Bytes (254 ∷ bytes) → unsignedValue bytes < 65536
 two-below bytes h b = rw h at (value-lt bytes (λ i. b (suc i)))
@@ -56,11 +34,8 @@ record ValueForm (low v : ℕ) (bytes : List ℕ) : Type 0 where
   same : bytes ≡ tagValueBytes v
   low-same : 0 < v → low ≡ lowBitsFor v
 
-from-five : (v : ℕ) → 5 ≤ v → 5 ≡ lowBitsFor v
-from-five v h = simp (le-ltb v 5 h)
-
 value-only : {low v : ℕ} {bytes : List ℕ} → TellsValue low v bytes → Bytes bytes → length bytes ≡ length (tagValueBytes v) → ValueForm low v bytes
-value-only (inline {low} h) b l = record { same = sym (few low h); low-same = λ z. simp (lt-ltb low 5 h) }
+value-only (inline {low} h) b l = record { same = sym (few low h); low-same = λ z. to-four low h }
 value-only (one {b} h k) below l =
     split b 5 (λ m. absurd (omega (arith, ap length (few b m))))
     (λ m. record { same = sym (alone b m (omega (arith, below 0))); low-same = λ z. from-five b m })

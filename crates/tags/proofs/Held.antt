@@ -9,11 +9,11 @@ use mathlib.Core.List.{List, [], _∷_, _++_, append-assoc, append-nil}
 use lib.ListN.{length, take, set, length-append}
 use lib.Dec.{ltb, lit≤}
 use Rattle.types.specs.Choice.{if}
-use Rattle.numbers.specs.Integer.{lowBytes}
 use Rattle.types.specs.Tag.{Number, application, context, opening, closing, Tag}
 use Rattle.tags.specs.Writing.{lowBitsFor, tagValueBytes, contextBytes, numberBytes, tagBytes}
 use Rattle.tags.specs.Held.{pad, holding, pushed, pushes}
 use Rattle.tags.specs.declared.header.Header.{Header}
+use Rattle.tags.proofs.BySize.{most-five}
 
 -- one more byte goes where the zeros begin
 pub pad-more : (n : ℕ) (l : List ℕ) (b : ℕ) → length l < n → set (pad n l) (length l) b ≡ pad n (l ++ (b ∷ []))
@@ -43,16 +43,6 @@ pushes-holding (b ∷ bs) l h =
     ∙ pushes-holding bs (l ++ (b ∷ [])) (omega (arith, length-append l (b ∷ [])))
     ∙ ap holding (append-assoc l (b ∷ []) bs)
 
--- at most five bytes follow for a value
-pub value-short : (v : ℕ) → length (tagValueBytes v) ≤ 5
-value-short v = go (ltb v 5) (ltb v 254) (ltb v 65536)
-  where
-    go : (a b c : Bool) → length (if a [] (if b (v ∷ []) (if c (254 ∷ lowBytes 2 v) (255 ∷ lowBytes 4 v)))) ≤ 5
-    go true b c = lit≤ tt
-    go false true c = lit≤ tt
-    go false false true = lit≤ tt
-    go false false false = lit≤ tt
-
 -- at most two bytes tell a context number
 pub context-short : (n low : ℕ) → length (contextBytes n low) ≤ 2
 context-short n low = go (ltb n 15)
@@ -67,8 +57,8 @@ unfolding tagBytes
 header-short t = go (t .number)
   where
     go : (n : Number) → length (numberBytes n (t .value)) ≤ 7
-    go (application n) = omega (arith, value-short (t .value))
-    go (context n) = omega (arith, value-short (t .value), context-short n (lowBitsFor (t .value)), length-append (contextBytes n (lowBitsFor (t .value))) (tagValueBytes (t .value)))
+    go (application n) = omega (arith, most-five (t .value))
+    go (context n) = omega (arith, most-five (t .value), context-short n (lowBitsFor (t .value)), length-append (contextBytes n (lowBitsFor (t .value))) (tagValueBytes (t .value)))
     go (opening n) = omega (arith, context-short n 6)
     go (closing n) = omega (arith, context-short n 7)
 

@@ -1,3 +1,4 @@
+pub mod BySize
 pub mod Held
 pub mod OneByte
 pub mod Begun

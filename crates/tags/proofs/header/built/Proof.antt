@@ -6,7 +6,8 @@ use Prim.Native.Nat.{_+_, _*_}
 use mathlib.Core.List.{[], _∷_}
 use Rattle.types.specs.Tag.{applicationOf}
 use Rattle.tags.specs.Writing.{tagBytes, tagValueBytes, contextBytes, lowBitsFor}
-use Rattle.tags.proofs.Held.{pushes-holding, value-short, context-short}
+use Rattle.tags.proofs.BySize.{most-five}
+use Rattle.tags.proofs.Held.{pushes-holding, context-short}
 use Rattle.tags.proofs.header.built.Statement.{statement}
 use Rattle.tags.proofs.header.built.Tie as tie
 
@@ -60,7 +61,7 @@ unfolding tagBytes
 returns c =
     let v = c .before .before .before .before .before .before .before .args .tag .value in
     simp (c .with-value .ensures, c .before .one-byte .ensures .0, c .before .before .low .ensures .0, c .before .before .before .number2 .ensures .0, c .before .before .before .before .before .number .given .1)
-    (pushes-holding (tagValueBytes v) ((applicationOf (c .before .before .before .before .before .number .given .0 .0) * 16 + lowBitsFor v) ∷ []) (omega (arith, value-short v)))
+    (pushes-holding (tagValueBytes v) ((applicationOf (c .before .before .before .before .before .number .given .0 .0) * 16 + lowBitsFor v) ∷ []) (omega (arith, most-five v)))
 
 returns-2 : tie.Need-returns-2
 unfolding tagBytes
@@ -68,7 +69,7 @@ returns-2 c =
     let v = c .before .before .before .before .before .before .args .tag .value in
     let n = c .before .before .before .before .number3 .given .0 .0 in
     simp (c .with-value2 .ensures, c .before .context .ensures .0, c .before .before .low2 .ensures .0, c .before .before .before .before .number3 .given .1)
-    (pushes-holding (tagValueBytes v) (contextBytes n (lowBitsFor v)) (omega (arith, value-short v, context-short n (lowBitsFor v))))
+    (pushes-holding (tagValueBytes v) (contextBytes n (lowBitsFor v)) (omega (arith, most-five v, context-short n (lowBitsFor v))))
 
 returns-3 : tie.Need-returns-3
 unfolding tagBytes
