@@ -40,7 +40,7 @@ fn by_thirty_two(text: &[u8], start: usize) -> usize
     place
 }
 
-// The same by eights.
+// The place after the bytes below 128 from a place on, as far as they go by eights.
 fn by_eight(text: &[u8], start: usize) -> usize
     requires { ⌜ start ≤ length (now text) ⌝ }
     ensures { λ r. ⌜ PlainTo (now (text .entry)) start r ⌝ }
@@ -55,7 +55,7 @@ fn by_eight(text: &[u8], start: usize) -> usize
     place
 }
 
-// The same one by one.
+// The place after the bytes below 128 from a place on, however many they are.
 fn one_by_one(text: &[u8], start: usize) -> usize
     requires { ⌜ start ≤ length (now text) ⌝ }
     ensures { λ r. ⌜ PlainTo (now (text .entry)) start r ⌝ }
