@@ -1,3 +1,5 @@
 pub mod Choices
+pub mod Class
 pub mod Single
+pub mod Numbered
 pub mod Accepted

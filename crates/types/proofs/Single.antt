@@ -5,7 +5,7 @@ use Prim.Native.Nat.{ℕ}
 use lib.Dec.{eqb}
 use Rattle.types.specs.Choice.{if}
 use Rattle.types.specs.Tag.{Number, application, context, opening, closing, Tag, applicationOf, numberOf, tagOf}
-use Rattle.types.specs.Refusal.{Carried, amount, tagFound, Row, row, table, carriedOf}
+use Rattle.types.specs.Refusal.{Carried, amount, tagFound, Row, row, table, carriedOf, paperRow}
 use Rattle.types.specs.Answer.{Answer, accepted, refused, Outcome, passed, stopped, paperOutcome}
 use Rattle.types.specs.Writing.{paperWritten}
 use Rattle.types.specs.declared.tag.ApplicationTagNumber.{ApplicationTagNumber}
@@ -17,6 +17,7 @@ use Rattle.types.specs.declared.refusal.Refusal.{Refusal}
 use Rattle.types.specs.declared.refusal.Refusal.the-variants as r
 use Rattle.types.specs.declared.carried.Carried as program-carried
 use Rattle.types.specs.declared.carried.Carried.the-variants as c
+use Rattle.types.specs.declared.row.RefusalRow.{RefusalRow}
 use Rattle.types.specs.declared.outcome.Outcome as program-outcome
 use Rattle.types.specs.declared.outcome.Outcome.the-variants as o
 use Rattle.types.specs.declared.written.Written.{Written}
@@ -85,6 +86,12 @@ carried-back (c.TagFound t) = ap c.TagFound (tag-back t)
 -- no two things that a refusal carries are the same on paper
 pub single-carried : (x y : program-carried.Carried) → carriedOf x ≡ carriedOf y → x ≡ y
 single-carried = told-apart carriedOf carried carried-back
+
+-- no two rows are the same on paper
+pub single-row : (x y : RefusalRow) → paperRow x ≡ paperRow y → x ≡ y
+single-row =
+    told-apart paperRow (λ (x : Row). record { number = x .number; carried = carried (x .carries) })
+    (λ (x : RefusalRow). ap (λ (c : program-carried.Carried). record { number = x .number; carried = c }) (carried-back (x .carried)))
 
 abbrev byAmount : ℕ → ℕ → Refusal
 byAmount k c =

@@ -6,6 +6,7 @@ use Rattle.types.specs.declared.refusal.Refusal.{Refusal}
 use Rattle.types.specs.declared.refusal.Refusal.the-variants as r
 use Rattle.types.specs.declared.carried.Carried as program
 use Rattle.types.specs.declared.carried.Carried.the-variants as c
+use Rattle.types.specs.declared.row.RefusalRow.{RefusalRow}
 
 -- what a refusal carries: a number, or the tag found
 pub data Carried : Type 0 where
@@ -45,3 +46,7 @@ table r.LineNotHexadecimal = row 19 (amount 0)
 abbrev pub carriedOf : program.Carried → Carried
 carriedOf (c.Amount n) = amount n
 carriedOf (c.TagFound t) = tagFound (tagOf t)
+
+-- a row of the program, on paper
+abbrev pub paperRow : RefusalRow → Row
+paperRow x = row (x .number) (carriedOf (x .carried))

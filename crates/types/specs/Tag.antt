@@ -14,6 +14,20 @@ pub data Number : Type 0 where
   opening : ℕ → Number
   closing : ℕ → Number
 
+-- the class, by a number: 1 application, 2 context, 3 opening, 4 closing
+abbrev pub classOf : Number → ℕ
+classOf (application n) = 1
+classOf (context n) = 2
+classOf (opening n) = 3
+classOf (closing n) = 4
+
+-- the number that stands in a tag, whatever its class
+abbrev pub numberIn : Number → ℕ
+numberIn (application n) = n
+numberIn (context n) = n
+numberIn (opening n) = n
+numberIn (closing n) = n
+
 pub record Tag : Type 0 where
   pub number : Number
   pub value : ℕ

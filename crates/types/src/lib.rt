@@ -2,12 +2,14 @@
 mod carried;
 mod outcome;
 mod refusal;
+mod row;
 mod tag;
 mod written;
 
 pub use carried::Carried;
 pub use outcome::Outcome;
 pub use refusal::Refusal;
+pub use row::RefusalRow;
 pub use tag::ApplicationTagNumber;
 pub use tag::Tag;
 pub use tag::TagNumber;

@@ -1,100 +1,76 @@
 // Refusals: why a call gives no value.
 ghost use mathlib.Core.Path.{_≡_};
-ghost use Rattle.types.specs.Refusal.{table, carriedOf};
-use crate::carried::Carried;
+ghost use Rattle.types.specs.Refusal.{table, paperRow};
+use crate::row::RefusalRow;
 use crate::tag::Tag;
 
-// Document 01's refusals, in its table's order, each with what it carries.
+// Document 01's refusals, in its table's order: when each is given, and what it carries.
 pub enum Refusal {
-    // The buffer's length, or the lent content's.
+    // The buffer, or the lent content, is longer than 65,535 bytes: its length.
     BufferTooLong(usize),
-    // The place.
+    // The place lies past the buffer's end: the place.
     PlacePastEnd(usize),
-    // The buffer's end for a single byte, else the place where the bytes should have ended.
+    // The buffer ends before what is read: its end for a single byte, else the place where the bytes should have ended.
     BytesRunOut(usize),
-    // The tag found.
+    // The tag has another class or number than the one expected: the tag found.
     OtherTagNumber(Tag),
-    // The tag found.
+    // The tag has another value than the one expected: the tag found.
     OtherTagValue(Tag),
-    // The tag found.
+    // No opening tag stands where a body is asked for: the tag found.
     NoOpeningTag(Tag),
-    // The length.
+    // The content has a length that its kind does not allow: the length.
     LengthNotAllowed(u32),
-    // The tag found.
+    // A tag that no value has stands where a value is asked for: the tag found.
     NotAValueTag(Tag),
-    // The character set.
+    // The text's character set is not 0: the set.
     OtherCharacterSet(u8),
-    // The first bad place, from the text's start.
+    // The text is not UTF-8: the first bad place, from the text's start.
     TextNotUtf8(usize),
-    // The choice.
+    // The service choice is above 33: the choice.
     ServiceChoiceTooLarge(u8),
+    // What is to be written has no bytes that stand for it: 0.
     CannotBeWritten,
-    // The length of the whole write.
+    // The buffer has no room for the whole write: the length of the whole write.
     NoRoom(usize),
-    // The tags read.
+    // As many tags as allowed are read and the body has not ended: the tags read.
     AllowanceSpent(usize),
-    // The closing tag's place.
+    // A walk meets a closing tag that does not close the innermost open block: the tag's place.
     ClosingWithoutOpening(usize),
-    // The seventeenth opening tag's place.
+    // A walk meets an opening tag while sixteen blocks are open: the tag's place.
     TooManyBlocksOpen(usize),
-    // The control byte.
+    // The PDU type is another one, or its segment bit is set: the control byte.
     OtherPduType(u8),
+    // The enumerated value is above 4,294,967,295: 0.
     EnumeratedTooLarge,
+    // The program's line has another character, an odd number of digits or too many: 0.
     LineNotHexadecimal,
 }
 
 impl Refusal {
-    // The refusal's number in document 01.
-    pub fn number(self) -> u8
-        ensures { λ r. ⌜ r ≡ table self .number ⌝ }
+    // The refusal's number in document 01, and what it carries: 0 where the table says 0.
+    pub fn row(self) -> RefusalRow
+        ensures { λ r. ⌜ paperRow r ≡ table self ⌝ }
     {
         match self {
-            Refusal::BufferTooLong(_) => 1,
-            Refusal::PlacePastEnd(_) => 2,
-            Refusal::BytesRunOut(_) => 3,
-            Refusal::OtherTagNumber(_) => 4,
-            Refusal::OtherTagValue(_) => 5,
-            Refusal::NoOpeningTag(_) => 6,
-            Refusal::LengthNotAllowed(_) => 7,
-            Refusal::NotAValueTag(_) => 8,
-            Refusal::OtherCharacterSet(_) => 9,
-            Refusal::TextNotUtf8(_) => 10,
-            Refusal::ServiceChoiceTooLarge(_) => 11,
-            Refusal::CannotBeWritten => 12,
-            Refusal::NoRoom(_) => 13,
-            Refusal::AllowanceSpent(_) => 14,
-            Refusal::ClosingWithoutOpening(_) => 15,
-            Refusal::TooManyBlocksOpen(_) => 16,
-            Refusal::OtherPduType(_) => 17,
-            Refusal::EnumeratedTooLarge => 18,
-            Refusal::LineNotHexadecimal => 19,
-        }
-    }
-
-    // What the refusal carries.
-    pub fn carried(self) -> Carried
-        ensures { λ r. ⌜ carriedOf r ≡ table self .carries ⌝ }
-    {
-        match self {
-            Refusal::BufferTooLong(n) => Carried::Amount(n),
-            Refusal::PlacePastEnd(n) => Carried::Amount(n),
-            Refusal::BytesRunOut(n) => Carried::Amount(n),
-            Refusal::OtherTagNumber(tag) => Carried::TagFound(tag),
-            Refusal::OtherTagValue(tag) => Carried::TagFound(tag),
-            Refusal::NoOpeningTag(tag) => Carried::TagFound(tag),
-            Refusal::LengthNotAllowed(n) => Carried::Amount(n as usize),
-            Refusal::NotAValueTag(tag) => Carried::TagFound(tag),
-            Refusal::OtherCharacterSet(n) => Carried::Amount(n as usize),
-            Refusal::TextNotUtf8(n) => Carried::Amount(n),
-            Refusal::ServiceChoiceTooLarge(n) => Carried::Amount(n as usize),
-            Refusal::CannotBeWritten => Carried::Amount(0),
-            Refusal::NoRoom(n) => Carried::Amount(n),
-            Refusal::AllowanceSpent(n) => Carried::Amount(n),
-            Refusal::ClosingWithoutOpening(n) => Carried::Amount(n),
-            Refusal::TooManyBlocksOpen(n) => Carried::Amount(n),
-            Refusal::OtherPduType(n) => Carried::Amount(n as usize),
-            Refusal::EnumeratedTooLarge => Carried::Amount(0),
-            Refusal::LineNotHexadecimal => Carried::Amount(0),
+            Refusal::BufferTooLong(length) => RefusalRow::of_amount(1, length),
+            Refusal::PlacePastEnd(place) => RefusalRow::of_amount(2, place),
+            Refusal::BytesRunOut(end) => RefusalRow::of_amount(3, end),
+            Refusal::OtherTagNumber(found) => RefusalRow::of_tag(4, found),
+            Refusal::OtherTagValue(found) => RefusalRow::of_tag(5, found),
+            Refusal::NoOpeningTag(found) => RefusalRow::of_tag(6, found),
+            Refusal::LengthNotAllowed(length) => RefusalRow::of_amount(7, length as usize),
+            Refusal::NotAValueTag(found) => RefusalRow::of_tag(8, found),
+            Refusal::OtherCharacterSet(set) => RefusalRow::of_amount(9, set as usize),
+            Refusal::TextNotUtf8(place) => RefusalRow::of_amount(10, place),
+            Refusal::ServiceChoiceTooLarge(choice) => RefusalRow::of_amount(11, choice as usize),
+            Refusal::CannotBeWritten => RefusalRow::of_amount(12, 0),
+            Refusal::NoRoom(length) => RefusalRow::of_amount(13, length),
+            Refusal::AllowanceSpent(tags) => RefusalRow::of_amount(14, tags),
+            Refusal::ClosingWithoutOpening(place) => RefusalRow::of_amount(15, place),
+            Refusal::TooManyBlocksOpen(place) => RefusalRow::of_amount(16, place),
+            Refusal::OtherPduType(control) => RefusalRow::of_amount(17, control as usize),
+            Refusal::EnumeratedTooLarge => RefusalRow::of_amount(18, 0),
+            Refusal::LineNotHexadecimal => RefusalRow::of_amount(19, 0),
         }
     }
 }
