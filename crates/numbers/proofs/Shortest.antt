@@ -10,9 +10,9 @@ use lib.ListN.{length}
 use lib.Dec.{ltb}
 use borrow.Author.Tests.{lt-ltb, le-ltb, ltb-true, ltb-false}
 use Rattle.types.proofs.Choices.{either}
-use Rattle.numbers.specs.Integer.{unsignedValue, signedValue, twosComplement, patternOf, unsignedLength, signedLength, unsignedBytes, signedBytes, Shortest}
+use Rattle.numbers.specs.Integer.{unsignedValue, signedValue, twosComplement, lowBytes, patternOf, unsignedLength, signedLength, unsignedBytes, signedBytes, Shortest}
 use Rattle.numbers.proofs.Value.{value-lt}
-use Rattle.numbers.proofs.Low.{low-bytes-stand, low-bytes-length, low-bytes-are-bytes}
+use Rattle.numbers.proofs.Low.{low-bytes-stand, low-bytes-length, low-bytes-are-bytes, low-bytes-of-pattern}
 use Rattle.numbers.proofs.Least.{length-between, length-holds, length-least}
 
 pub unsigned-length : (v : ℕ) → length (unsignedBytes v) ≡ unsignedLength v
@@ -47,6 +47,11 @@ signed-holds z h = rw (signed-as-unsigned z) (length-holds (mag z * 2) (omega ar
 
 pub signed-between : (z : ℤ) → (1 ≤ signedLength z) × (signedLength z ≤ 8)
 signed-between z = rw (signed-as-unsigned z) (length-between (mag z * 2))
+
+-- the content of a signed integer is the low bytes of its 64-bit pattern, as many as it needs
+pub signed-by-pattern : (z : ℤ) → mag z < 2 ^ 63 → lowBytes (signedLength z) (patternOf 8 z) ≡ signedBytes z
+unfolding signedBytes
+signed-by-pattern z h = low-bytes-of-pattern (signedLength z) z (signed-between z .1) (omega (arith, signed-holds z h))
 
 -- the pattern of a number that n bytes hold fits them, for every n
 pattern-lt : (n : ℕ) (z : ℤ) → mag z * 2 < 256 ^ n → patternOf n z < 256 ^ n

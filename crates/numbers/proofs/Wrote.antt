@@ -2,10 +2,11 @@
 -- Assumes nothing.
 use mathlib.Core.Path.{_≡_, refl, subst, _∙_, ap, sym}
 use Prim.Native.Nat.{ℕ, _+_, _≤_}
+use native.Mathlib.Nat.{add-assoc}
 use native.Mathlib.Omega.{arith}
-use mathlib.Core.List.{List, _++_}
+use mathlib.Core.List.{List, _++_, append-assoc}
 use lib.ListN.{length, take, drop, length-append, length-drop}
-use lib.Seq.{drop-at, length-take-le}
+use lib.Seq.{take-at, drop-at, drop-drop, length-take-le}
 use Rattle.types.specs.Answer.{Answer, accepted, refused}
 use borrow.Author.Tests.{le-ltb}
 use Rattle.types.specs.Writing.{Writable, can, Left, left, over, settled, writeAnswer, writing}
@@ -43,6 +44,18 @@ module _ (bytes xs : List ℕ) (place : ℕ) (room : place + length bytes ≤ le
   -- and the buffer is as long as it was
   pub over-length : length (over xs place bytes) ≡ length xs
   over-length = simp (length-append, length-take-le place xs (omega arith), length-drop) (omega arith)
+
+-- bytes and then others behind them are replaced as all of them at once
+pub over-behind : (bytes more xs : List ℕ) (place : ℕ) → place ≤ length xs → over (over xs place bytes) (place + length bytes) more ≡ over xs place (bytes ++ more)
+over-behind bytes more xs place inside =
+    let p : ℕ = place + length bytes in
+    let h : List ℕ = take place xs ++ bytes in
+    let l : length h ≡ p = simp (length-append, length-take-le place xs inside) in
+    let g : over xs place bytes ≡ h ++ drop p xs = sym (append-assoc (take place xs) bytes (drop p xs)) in
+    let t : take p (over xs place bytes) ≡ h = ap (take p) g ∙ take-at h (drop p xs) p l in
+    let d : drop p (over xs place bytes) ≡ drop p xs = ap (drop p) g ∙ drop-at h (drop p xs) p l in
+    let e : drop (p + length more) (over xs place bytes) ≡ drop (p + length more) xs = sym (drop-drop (length more) p (over xs place bytes)) ∙ ap (drop (length more)) d ∙ drop-drop (length more) p xs in
+    rw (t, e, length-append, ← add-assoc, append-assoc, append-assoc)
 
 -- bytes that fit are written whole
 pub write-fits : (lent : ℕ) (bytes xs : List ℕ) (place : ℕ) → lent ≤ 65535 → length xs ≤ 65535 → place + length bytes ≤ length xs → writing lent can bytes xs place ≡ left (accepted tt (place + length bytes)) (over xs place bytes)

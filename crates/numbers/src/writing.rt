@@ -56,11 +56,10 @@ pub fn extend_from_slice(src: &[u8], buf: &mut [u8], place: usize) -> Written
     }
 }
 
-// Writes an unsigned integer's content in the fewest bytes.
-pub fn write_unsigned(value: u64, buf: &mut [u8], place: usize) -> Written
-    ensures { λ r. ⌜ left (paperWritten r) (now (buf .exit)) ≡ writing 0 can (unsignedBytes value) (now (buf .entry)) place ⌝ }
+// Writes so many low bytes of a number, most significant first.
+pub fn write_low_bytes(value: u64, count: usize, buf: &mut [u8], place: usize) -> Written
+    ensures { λ r. ⌜ left (paperWritten r) (now (buf .exit)) ≡ writing 0 can (lowBytes count value) (now (buf .entry)) place ⌝ }
 {
-    let count = unsigned_length(value);
     match room(0, count, buf, place) {
         Written::To(next) => {
             put(value, count, buf, place);
@@ -70,18 +69,18 @@ pub fn write_unsigned(value: u64, buf: &mut [u8], place: usize) -> Written
     }
 }
 
+// Writes an unsigned integer's content in the fewest bytes.
+pub fn write_unsigned(value: u64, buf: &mut [u8], place: usize) -> Written
+    ensures { λ r. ⌜ left (paperWritten r) (now (buf .exit)) ≡ writing 0 can (unsignedBytes value) (now (buf .entry)) place ⌝ }
+{
+    write_low_bytes(value, unsigned_length(value), buf, place)
+}
+
 // Writes a signed integer's content, two's complement in the fewest bytes.
 pub fn write_signed(value: i64, buf: &mut [u8], place: usize) -> Written
     ensures { λ r. ⌜ left (paperWritten r) (now (buf .exit)) ≡ writing 0 can (signedBytes value) (now (buf .entry)) place ⌝ }
 {
-    let count = signed_length(value);
-    match room(0, count, buf, place) {
-        Written::To(next) => {
-            put(pattern(value), count, buf, place);
-            Written::To(next)
-        }
-        Written::Refused(r) => Written::Refused(r),
-    }
+    write_low_bytes(pattern(value), signed_length(value), buf, place)
 }
 
 // The unsigned integer that has the bits of a signed one.

@@ -14,7 +14,7 @@ use Rattle.types.specs.Writing.{can, unwritable, writing}
 use Rattle.types.specs.Acceptable.{Acceptable, IsAccepted}
 use Rattle.types.proofs.Accepted.{accepted-exactly}
 use Rattle.tags.specs.Writing.{tagBytes, Valueless, tagValueAllowed, writableTag, tagTo, tagBefore}
-use Rattle.tags.specs.Item.{itemBytes, itemTo}
+use Rattle.tags.specs.Item.{itemBytes, itemTo, itemLentTo}
 
 -- what can be written: an opening and a closing have the value 0, and any other tag may have any
 allowed-exactly : (n : Number) (v : ℕ) → (tagValueAllowed (tag n v) ≡ true) ↔ Valueless n v
@@ -47,5 +47,5 @@ module _ (n : Number) (xs : List ℕ) (place : ℕ) where
 
   -- an item: the integers under their tags, and a boolean under a context tag
   pub item-accepted : (content : List ℕ) → IsAccepted (itemTo n content xs place .answer) ↔ Acceptable 0 (Valueless n (length content)) (length (itemBytes n content)) xs place
-  unfolding itemTo writing
+  unfolding itemTo itemLentTo writing
   item-accepted content = accepted-exactly 0 (writableTag (tag n (length content))) (length (itemBytes n content)) xs place (writable-exactly n (length content)) (itemBytes n content)

@@ -20,7 +20,7 @@ use Rattle.numbers.proofs.Wrote.{wrote, written-here, over-length}
 use Rattle.tags.specs.Reading.{tagFrom}
 use Rattle.tags.specs.Header.{classBit, numberField, lowBits, TellsValue, inline, one, two, four, IsTag, ofApplication, ofLongContext, ofContext, ofOpening, ofClosing}
 use Rattle.tags.specs.Writing.{lowBitsFor, tagValueBytes, numberBytes, tagBytes, writableTag, tagTo}
-use Rattle.tags.specs.Item.{itemBytes, itemTo}
+use Rattle.tags.specs.Item.{itemBytes, itemTo, itemLentTo}
 use Rattle.tags.proofs.BySize.{split, to-four, from-five, low-lt, few, alone, in-two, in-four}
 use Rattle.tags.proofs.Exactly.{tag-read}
 use Rattle.tags.proofs.Range.{InRange}
@@ -103,7 +103,7 @@ pub record ItemFound (n : Number) (content : List ℕ) (ys : List ℕ) (place ne
   pub ends : next ≡ after + length content
 
 pub item-found : (n : Number) (content : List ℕ) → InRange n (length content) → (xs : List ℕ) (place next : ℕ) (ys : List ℕ) → itemTo n content xs place ≡ left (accepted tt next) ys → ItemFound n content ys place next
-unfolding itemTo
+unfolding itemTo itemLentTo
 item-found n content r xs place next ys e =
     let t : Tag = tag n (length content) in
     let h : List ℕ = tagBytes t in

@@ -2,7 +2,7 @@ pub mod BySize
 pub mod Held
 pub mod OneByte
 pub mod Begun
-pub mod Item
+pub mod ByParts
 pub mod Exactly
 pub mod OneTag
 pub mod Range

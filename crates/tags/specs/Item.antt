@@ -14,9 +14,13 @@ use Rattle.tags.specs.declared.integer.ContextTag.the-variants as c
 abbrev pub itemBytes : Number → List ℕ → List ℕ
 itemBytes n content = tagBytes (tag n (length content)) ++ content
 
--- what writing it at a place of a buffer answers and leaves
+-- what writing it at a place of a buffer answers and leaves, where so many bytes of the content are lent
+unfoldable pub itemLentTo : (lent : ℕ) → Number → List ℕ → List ℕ → ℕ → Left
+itemLentTo lent n content xs place = writing lent (writableTag (tag n (length content))) (itemBytes n content) xs place
+
+-- and where none is
 unfoldable pub itemTo : Number → List ℕ → List ℕ → ℕ → Left
-itemTo n content xs place = writing 0 (writableTag (tag n (length content))) (itemBytes n content) xs place
+itemTo n content xs place = itemLentTo 0 n content xs place
 
 -- the number that an integer is written under: that of its kind, or the context number
 abbrev pub numberUnder : ℕ → ContextTag → Number

@@ -5,7 +5,7 @@ ghost use Rattle.types.specs.Tag.{context, opening, closing, tag};
 ghost use Rattle.types.specs.Writing.{paperWritten, left};
 ghost use Rattle.tags.specs.Item.{itemTo, booleanByte};
 ghost use Rattle.tags.specs.Writing.{tagTo};
-use crate::writing::begin;
+use crate::item::encode_item;
 use crate::writing::encode;
 use types::Tag;
 use types::TagNumber;
@@ -39,25 +39,22 @@ pub fn encode_closing_tag(tag_number: u8, buf: &mut [u8], place: usize) -> Writt
     )
 }
 
-// Writes a boolean under a context tag, as one byte of content.
+// Writes a boolean under a context tag, as one byte of content; nothing is lent.
 pub fn encode_context_bool(tag_number: u8, value: bool, buf: &mut [u8], place: usize) -> Written
     ensures { λ r. ⌜ left (paperWritten r) (now (buf .exit)) ≡ itemTo (context «tag_number») (booleanByte value ∷ []) (now (buf .entry)) place ⌝ }
 {
-    let tag = Tag {
-        number: TagNumber::ContextSpecific(tag_number),
-        value: 1,
-    };
-    match begin(tag, 1, buf, place) {
-        Written::To(next) => {
-            numbers::push(byte_of(value), &mut buf[next..], 0);
-            Written::To(next + 1)
-        }
-        Written::Refused(r) => Written::Refused(r),
-    }
+    encode_item(
+        TagNumber::ContextSpecific(tag_number),
+        byte_of(value),
+        1,
+        &[],
+        buf,
+        place,
+    )
 }
 
 // The byte that stands for a boolean.
-fn byte_of(value: bool) -> u8
+fn byte_of(value: bool) -> u64
     ensures { λ r. ⌜ r ≡ booleanByte value ⌝ }
 {
     if value { 1 } else { 0 }

@@ -4,9 +4,8 @@ ghost use Rattle.types.specs.Tag.{context, application, applicationOf, numberOf
 ghost use Rattle.types.specs.Writing.{paperWritten, left};
 ghost use Rattle.numbers.specs.Integer.{unsignedBytes, signedBytes};
 ghost use Rattle.tags.specs.Item.{itemTo, numberUnder};
-use crate::writing::begin;
+use crate::item::encode_item;
 use types::ApplicationTagNumber;
-use types::Tag;
 use types::TagNumber;
 use types::Written;
 
@@ -107,38 +106,30 @@ fn number_under(name: ApplicationTagNumber, context_tag: ContextTag) -> TagNumbe
     }
 }
 
-// Writes an unsigned integer under an ordinary tag.
+// Writes an unsigned integer under an ordinary tag; nothing is lent.
 fn unsigned_under(number: TagNumber, value: u64, buf: &mut [u8], place: usize) -> Written
     ensures { λ r. ⌜ left (paperWritten r) (now (buf .exit)) ≡ itemTo (numberOf number) (unsignedBytes value) (now (buf .entry)) place ⌝ }
 {
-    let len = numbers::unsigned_length(value);
-    let tag = Tag {
+    encode_item(
         number,
-        value: len as u32,
-    };
-    match begin(tag, len as u32, buf, place) {
-        Written::To(next) => {
-            numbers::write_unsigned(value, &mut buf[next..], 0);
-            Written::To(next + len)
-        }
-        Written::Refused(r) => Written::Refused(r),
-    }
+        value,
+        numbers::unsigned_length(value) as u8,
+        &[],
+        buf,
+        place,
+    )
 }
 
-// Writes a signed integer under an ordinary tag.
+// Writes a signed integer under an ordinary tag; nothing is lent.
 fn signed_under(number: TagNumber, value: i64, buf: &mut [u8], place: usize) -> Written
     ensures { λ r. ⌜ left (paperWritten r) (now (buf .exit)) ≡ itemTo (numberOf number) (signedBytes value) (now (buf .entry)) place ⌝ }
 {
-    let len = numbers::signed_length(value);
-    let tag = Tag {
+    encode_item(
         number,
-        value: len as u32,
-    };
-    match begin(tag, len as u32, buf, place) {
-        Written::To(next) => {
-            numbers::write_signed(value, &mut buf[next..], 0);
-            Written::To(next + len)
-        }
-        Written::Refused(r) => Written::Refused(r),
-    }
+        numbers::pattern(value),
+        numbers::signed_length(value) as u8,
+        &[],
+        buf,
+        place,
+    )
 }

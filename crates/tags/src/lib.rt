@@ -2,6 +2,7 @@
 mod block;
 mod header;
 mod integer;
+mod item;
 mod reading;
 mod short;
 mod writing;
@@ -18,6 +19,7 @@ pub use integer::encode_context_unsigned;
 pub use integer::encode_enumerated;
 pub use integer::encode_signed;
 pub use integer::encode_unsigned;
+pub use item::encode_item;
 pub use reading::TagRead;
 pub use reading::decode;
 pub use reading::decode_expected;

@@ -4,7 +4,7 @@ use borrow.Author.Needs.{needs}
 use native.Mathlib.Omega.{arith}
 use mathlib.Core.Path.{refl}
 use lib.ListN.{length}
-use Rattle.tags.proofs.Item.{RoomFor, begun-room, item-written, item-refused}
+use Rattle.tags.proofs.ByParts.{RoomFor, begun-room, item-written, item-refused}
 use Rattle.values.proofs.writing.plain.Statement.{statement}
 use Rattle.values.proofs.writing.plain.Tie as tie
 

@@ -7,7 +7,7 @@ use mathlib.Core.List.{_∷_}
 use Prim.Native.Nat.{_+_}
 use native.Mathlib.Numerals.{add-one}
 use lib.ListN.{length}
-use Rattle.tags.proofs.Item.{RoomFor, begun-room, lent-length, item-filled, item-refused}
+use Rattle.tags.proofs.ByParts.{RoomFor, begun-room, lent-length, item-filled, item-refused}
 use Rattle.values.proofs.writing.prefixed.Statement.{statement}
 use Rattle.values.proofs.writing.prefixed.Tie as tie
 

@@ -10,7 +10,7 @@ use mir.ValLaws.{toZ-ofZ}
 use Rattle.types.specs.Tag.{application}
 use Rattle.types.specs.Writing.{can, Left, writing}
 use Rattle.numbers.specs.Integer.{signedBytes}
-use Rattle.tags.specs.Item.{itemTo}
+use Rattle.tags.specs.Item.{itemTo, itemLentTo}
 use Rattle.tags.specs.Writing.{tagValueAllowed, tagTo}
 use Rattle.values.specs.Value.{valueOf}
 use Rattle.values.specs.Writing.{writableValue, valueBytes}
@@ -39,7 +39,7 @@ identifier c = id-exactly (c .value6 .given .0 .0 .«object_type») (c .value6 .
 
 -- a signed integer is read back from its bits as it is
 signed : tie.Need-returns-12
-unfolding valueBytes itemTo tagValueAllowed
+unfolding valueBytes itemTo itemLentTo tagValueAllowed
 signed c =
     let s = c .before .before .before .before .before .before .before .before .before in
     let z = c .before .before .before .before .before .value10 .given .0 .0 in
@@ -48,7 +48,7 @@ signed c =
 
 -- a row for each arm, in the order of the source: first what is known and asked there, then what is returned
 pub write-spec : {M : Type 1} → statement M
-unfolding valueBytes itemTo tagTo tagValueAllowed
+unfolding valueBytes itemTo itemLentTo tagTo tagValueAllowed
 write-spec =
     tie.close
     (tie.spec

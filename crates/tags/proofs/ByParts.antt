@@ -2,11 +2,12 @@
 -- Assumes nothing.
 use mathlib.Core.Path.{_≡_, refl, _∙_, ap, sym, subst}
 use Prim.Native.Nat.{ℕ, _+_, _-_, _≤_}
-use native.Mathlib.Nat.{add-assoc, zero-add}
+use native.Mathlib.Nat.{zero-add}
 use native.Mathlib.Omega.{arith}
-use mathlib.Core.List.{List, [], _++_, append-assoc, append-nil}
+use mathlib.Core.List.{List, [], _++_, append-nil}
 use lib.ListN.{length, take, drop, length-append, length-drop, drop-of-length-le}
-use lib.Seq.{take-at, drop-at, drop-drop, length-take-le, take-all}
+use lib.Seq.{drop-drop, take-all}
+use borrow.Author.Tests.{le-ltb}
 use borrow.Rule.Slice.PartMut.{putMid}
 use Rattle.types.specs.Tag.{Number, Tag, tag}
 use Rattle.types.specs.Answer.{Answer, accepted, refused, refusal}
@@ -15,35 +16,28 @@ use Rattle.types.specs.declared.refusal.Refusal.{Refusal}
 use Rattle.types.specs.declared.written.Written.{Written}
 use Rattle.types.specs.declared.written.Written.the-variants as w
 use Rattle.numbers.proofs.Inside.{Room, write-room}
-use Rattle.numbers.proofs.Wrote.{over-length, write-fits}
+use Rattle.numbers.proofs.Wrote.{over-length, over-behind, write-fits}
 use Rattle.tags.specs.Writing.{tagBytes, writableTag, tagBefore}
-use Rattle.tags.specs.Item.{itemTo}
+use Rattle.tags.specs.Item.{itemTo, itemLentTo}
 
 -- content written behind the first bytes of an item, where those were written
 abbrev pub followed : List ℕ → List ℕ → Answer (Unit {0}) → Left
 followed content ys (accepted u next) = left (accepted tt (next + length content)) (take next ys ++ over (drop next ys) 0 content)
 followed content ys (refused n c) = left (refused n c) ys
 
-module _ (bytes content xs : List ℕ) (place : ℕ) (fits : place + (length bytes + length content) ≤ length xs) where
-  head-length : length (take place xs ++ bytes) ≡ place + length bytes
-  head-length = simp (length-append, length-take-le place xs (omega arith))
+-- the rest of a buffer from a place on, whose front was replaced, is the buffer with the bytes from that place on replaced
+rest-replaced : (ys : List ℕ) (p : ℕ) (content : List ℕ) → over ys p content ≡ take p ys ++ over (drop p ys) 0 content
+rest-replaced ys p content = rw (zero-add, drop-drop)
 
-  regrouped : over xs place bytes ≡ (take place xs ++ bytes) ++ drop (place + length bytes) xs
-  regrouped = sym (append-assoc (take place xs) bytes (drop (place + length bytes) xs))
-
-  over-then : over xs place (bytes ++ content) ≡ take (place + length bytes) (over xs place bytes) ++ over (drop (place + length bytes) (over xs place bytes)) 0 content
-  over-then =
-      let p : ℕ = place + length bytes in
-      let t : take p (over xs place bytes) ≡ take place xs ++ bytes = ap (take p) regrouped ∙ take-at (take place xs ++ bytes) (drop p xs) p head-length in
-      let d : drop p (over xs place bytes) ≡ drop p xs = ap (drop p) regrouped ∙ drop-at (take place xs ++ bytes) (drop p xs) p head-length in
-      rw (t, d, zero-add, drop-drop, length-append, ← add-assoc, append-assoc, append-assoc)
+over-then : (bytes content xs : List ℕ) (place : ℕ) → place ≤ length xs → over xs place (bytes ++ content) ≡ take (place + length bytes) (over xs place bytes) ++ over (drop (place + length bytes) (over xs place bytes)) 0 content
+over-then bytes content xs place inside = sym (over-behind bytes content xs place inside) ∙ rest-replaced (over xs place bytes) (place + length bytes) content
 
 -- the first bytes and then the content, by the one answer that both have
 pub by-parts : (bytes content xs : List ℕ) (place : ℕ) (a : Answer (Unit {0})) → Room (length bytes + length content) xs place a
     → settled (bytes ++ content) xs place a ≡ followed content (settled bytes xs place a .buffer) (settled bytes xs place a .answer)
 by-parts bytes content xs place (accepted u next) r =
     let e : place + length (bytes ++ content) ≡ place + length bytes + length content = omega (arith, length-append bytes content) in
-    λ i. left (accepted tt (e i)) (over-then bytes content xs place (r .1) i)
+    λ i. left (accepted tt (e i)) (over-then bytes content xs place (omega (arith, r .1)) i)
 by-parts bytes content xs place (refused n c) r = refl
 
 -- where a header was written, there is room for the content that it is to have
@@ -79,10 +73,20 @@ put-back p ys l h =
     let e : drop (length ys - p) (drop p ys) ≡ [] = drop-of-length-le (drop p ys) {i = length ys - p} (omega (arith, length-drop p ys)) in
     rw (e, append-nil)
 
+-- content lent that is not too long is written as if none were lent
+pub item-lent : (lent : ℕ) (n : Number) (content xs : List ℕ) (place : ℕ) → lent ≤ 65535 → itemTo n content xs place ≡ itemLentTo lent n content xs place
+unfolding itemTo itemLentTo writing writeAnswer
+item-lent lent n content xs place small = simp (le-ltb 65535 lent small)
+
+-- and where nothing is lent, what stands before it is the content
+pub none-lent : (n : Number) (content xs : List ℕ) (place : ℕ) → itemLentTo 0 n (content ++ []) xs place ≡ itemTo n content xs place
+unfolding itemTo
+none-lent n content xs place = rw (append-nil content)
+
 -- writing an item is writing its header, with room for the content, and then the content into the rest of the buffer
 pub item-by-parts : (n : Number) (content xs : List ℕ) (place : ℕ)
     → itemTo n content xs place ≡ followed content (tagBefore (tag n (length content)) (length content) xs place .buffer) (tagBefore (tag n (length content)) (length content) xs place .answer)
-unfolding itemTo writing tagBefore
+unfolding itemTo itemLentTo writing tagBefore
 item-by-parts n content xs place =
     let t : Tag = tag n (length content) in
     rw (length-append (tagBytes t) content)
