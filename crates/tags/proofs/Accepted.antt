@@ -45,7 +45,12 @@ module _ (n : Number) (xs : List ℕ) (place : ℕ) where
   unfolding tagBefore
   begin-accepted v content = accepted-exactly 0 (writableTag (tag n v)) (length (tagBytes (tag n v)) + content) xs place (writable-exactly n v) (tagBytes (tag n v))
 
-  -- an item: the integers under their tags, and a boolean under a context tag
+  -- an item, of whose content so many bytes are lent
+  pub item-lent-accepted : (lent : ℕ) (content : List ℕ) → IsAccepted (itemLentTo lent n content xs place .answer) ↔ Acceptable lent (Valueless n (length content)) (length (itemBytes n content)) xs place
+  unfolding itemLentTo writing
+  item-lent-accepted lent content = accepted-exactly lent (writableTag (tag n (length content))) (length (itemBytes n content)) xs place (writable-exactly n (length content)) (itemBytes n content)
+
+  -- and where none is: the integers under their tags, and a boolean under a context tag
   pub item-accepted : (content : List ℕ) → IsAccepted (itemTo n content xs place .answer) ↔ Acceptable 0 (Valueless n (length content)) (length (itemBytes n content)) xs place
-  unfolding itemTo itemLentTo writing
-  item-accepted content = accepted-exactly 0 (writableTag (tag n (length content))) (length (itemBytes n content)) xs place (writable-exactly n (length content)) (itemBytes n content)
+  unfolding itemTo
+  item-accepted content = item-lent-accepted 0 content
