@@ -5,6 +5,7 @@ pub mod Control
 pub mod Exactly
 pub mod Back
 pub mod Again
+pub mod Padded
 pub mod Single
 pub mod Examples
 pub mod Accepted

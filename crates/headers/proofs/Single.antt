@@ -1,4 +1,4 @@
--- No two headers and no two answers of the reader are the same on paper, so each promise admits a single one.
+-- No two kinds, no two headers and no two answers of the reader are the same on paper, so each promise admits a single one.
 -- Assumes nothing.
 use mathlib.Core.Path.{_≡_, refl, ap}
 use Prim.Native.Nat.{ℕ}
@@ -7,19 +7,30 @@ use lib.ListN.{getD}
 use Rattle.types.specs.Refusal.{row}
 use Rattle.types.specs.Answer.{Answer, accepted, refused}
 use Rattle.types.proofs.Single.{told-apart, programRefusal, refusal-back}
-use Rattle.headers.specs.Header.{Kind, request, simple, complex, segment, FieldValue, nibbles, number, choice, Header, headerOf}
+use Rattle.headers.specs.Header.{Kind, request, simple, complex, segment, Header, headerOf, kindOf, fieldNumbers}
 use Rattle.headers.specs.Reading.{paperHeader}
 use Rattle.headers.specs.declared.header.Header as program
 use Rattle.headers.specs.declared.header.Header.the-variants as h
+use Rattle.headers.specs.declared.kind.Kind as kind
+use Rattle.headers.specs.declared.kind.Kind.the-variants as k
 use Rattle.headers.specs.declared.reading.HeaderRead.{HeaderRead}
 use Rattle.headers.specs.declared.reading.HeaderRead.the-variants as r
 
--- the numbers of a header, in their order
-abbrev numbers : List FieldValue → List ℕ
-numbers [] = []
-numbers (nibbles a b ∷ vs) = a ∷ b ∷ numbers vs
-numbers (number n ∷ vs) = n ∷ numbers vs
-numbers (choice c ∷ vs) = c ∷ numbers vs
+abbrev programKind : Kind → kind.Kind
+programKind request = k.Request
+programKind simple = k.Simple
+programKind complex = k.Complex
+programKind segment = k.Segment
+
+kind-back : (x : kind.Kind) → programKind (kindOf x) ≡ x
+kind-back k.Request = refl
+kind-back k.Simple = refl
+kind-back k.Complex = refl
+kind-back k.Segment = refl
+
+-- no two kinds are the same on paper
+pub single-kind : (x y : kind.Kind) → kindOf x ≡ kindOf y → x ≡ y
+single-kind = told-apart kindOf programKind kind-back
 
 abbrev ofKind : Kind → List ℕ → program.Header
 ofKind request ns = h.ConfirmedRequest (getD ns 0 0) (getD ns 1 0) (getD ns 2 0) (getD ns 3 0)
@@ -28,7 +39,7 @@ ofKind complex ns = h.ComplexAck (getD ns 0 0) (getD ns 1 0)
 ofKind segment ns = h.SegmentAck (getD ns 0 0) (getD ns 1 0) (getD ns 2 0)
 
 abbrev pub programHeader : Header → program.Header
-programHeader x = ofKind (x .kind) (numbers (x .fields))
+programHeader x = ofKind (x .kind) (fieldNumbers (x .fields))
 
 pub header-back : (x : program.Header) → programHeader (headerOf x) ≡ x
 header-back (h.ConfirmedRequest segments size id c) = refl

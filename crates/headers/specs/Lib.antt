@@ -1,4 +1,7 @@
 pub mod Choice
+pub mod Letters
+pub mod Words
+pub mod Padded
 pub mod Header
 pub mod Reading
 pub mod Writing

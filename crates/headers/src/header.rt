@@ -1,4 +1,11 @@
 // The headers of confirmed services, by their fields.
+ghost use mathlib.Core.Path.{_≡_};
+ghost use mathlib.Core.List.{[], _∷_};
+ghost use Prim.Native.Nat.{_≤_};
+ghost use lib.ListN.{length};
+ghost use Rattle.headers.specs.Header.{kindOf, headerOf, fieldNumbers};
+ghost use Rattle.headers.specs.Padded.{padded};
+use crate::kind::Kind;
 
 // A header; its fields stand in the order of their bytes, and a service choice is one of `confirmed_service_choice`.
 pub enum Header {
@@ -22,4 +29,54 @@ pub enum Header {
         sequence_num: u8,
         proposed_window_size: u8,
     },
+}
+
+// A header by its kind and the numbers of its fields in their order: the first `count` of four, the rest 0.
+pub struct Description {
+    pub kind: Kind,
+    pub fields: [u32; 4],
+    pub count: usize,
+}
+
+impl Header {
+    // The header's kind and the numbers of its fields.
+    pub fn described(self) -> Description
+        ensures { λ r. ⌜ kindOf (r .kind) ≡ headerOf self .kind ⌝ }
+        ensures { λ r. ⌜ r .fields ≡ padded 4 (fieldNumbers (headerOf self .fields)) ⌝ }
+        ensures { λ r. ⌜ r .count ≡ length (fieldNumbers (headerOf self .fields)) ⌝ }
+        ensures { λ r. ⌜ r .count ≤ 4 ⌝ }
+    {
+        match self {
+            Header::ConfirmedRequest {
+                max_segments: segments,
+                max_adpu: size,
+                invoke_id: id,
+                service_choice: choice,
+            } => of_bytes(Kind::Request, 4, segments, size, id, choice),
+            Header::SimpleAck {
+                invoke_id: id,
+                service_choice: choice,
+            } => of_bytes(Kind::Simple, 2, id, choice, 0, 0),
+            Header::ComplexAck {
+                invoke_id: id,
+                service_choice: choice,
+            } => of_bytes(Kind::Complex, 2, id, choice, 0, 0),
+            Header::SegmentAck {
+                invoke_id: id,
+                sequence_num: sequence,
+                proposed_window_size: window,
+            } => of_bytes(Kind::Segment, 3, id, sequence, window, 0),
+        }
+    }
+}
+
+// A description whose fields are bytes, of which the first `count` are the header's.
+fn of_bytes(kind: Kind, count: usize, a: u8, b: u8, c: u8, d: u8) -> Description
+    ensures { λ r. ⌜ (r .kind ≡ kind) × (r .fields ≡ a ∷ b ∷ c ∷ d ∷ []) × (r .count ≡ count) ⌝ }
+{
+    Description {
+        kind,
+        fields: [a as u32, b as u32, c as u32, d as u32],
+        count,
+    }
 }

@@ -5,10 +5,10 @@ ghost use Rattle.headers.specs.Header.{request, simple, complex, segment
 ghost use Rattle.headers.specs.Reading.{fieldsFrom, kindFrom, headerAfter, headerFrom, paperPair, paperHeader};
 use crate::confirmed_service_choice::AUDIT_LOG_QUERY;
 use crate::header::Header;
-use crate::pdu_type::COMPLEX_ACK;
-use crate::pdu_type::CONFIRMED_REQUEST;
-use crate::pdu_type::SEGMENT_ACK;
-use crate::pdu_type::SIMPLE_ACK;
+use crate::kind::COMPLEX_ACK;
+use crate::kind::CONFIRMED_REQUEST;
+use crate::kind::SEGMENT_ACK;
+use crate::kind::SIMPLE_ACK;
 use numbers::ByteRead;
 use types::Refusal;
 

@@ -9,10 +9,10 @@ ghost use Rattle.headers.specs.Header.{accepting, headerOf};
 ghost use Rattle.headers.specs.Writing.{choiceWritable, headerTo};
 use crate::confirmed_service_choice::AUDIT_LOG_QUERY;
 use crate::header::Header;
-use crate::pdu_type::COMPLEX_ACK;
-use crate::pdu_type::CONFIRMED_REQUEST;
-use crate::pdu_type::SEGMENT_ACK;
-use crate::pdu_type::SIMPLE_ACK;
+use crate::kind::COMPLEX_ACK;
+use crate::kind::CONFIRMED_REQUEST;
+use crate::kind::SEGMENT_ACK;
+use crate::kind::SIMPLE_ACK;
 use types::Refusal;
 use types::Written;
 
