@@ -2,6 +2,8 @@ pub mod Found
 pub mod Unfolds
 pub mod Standing
 pub mod Nested
+pub mod Fitting
+pub mod Steps
 pub mod Along
 pub mod Passing
 pub mod Exactly

@@ -1,5 +1,8 @@
 pub mod Tag
 pub mod Walk
+pub mod Step
+pub mod Steps
+pub mod Fitting
 pub mod Listing
 pub mod Grammar
 pub mod Block
