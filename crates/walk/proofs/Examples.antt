@@ -1,6 +1,7 @@
--- Document 01's examples of the walk, and its program's second frame, by one statement each, which antt computes.
+-- Document 01's examples of the walk, steps of it, and the program's second frame, by one statement each, which antt computes.
 -- Assumes nothing.
 use mathlib.Core.Path.{_≡_, refl}
+use Prim.Native.Nat.{ℕ}
 use mathlib.Core.List.{List, [], _∷_}
 use Rattle.types.specs.Tag.{application, context, opening, closing, tag}
 use Rattle.types.specs.Refusal.{amount}
@@ -8,7 +9,8 @@ use Rattle.types.specs.Answer.{passed, stopped}
 use Rattle.numbers.specs.Reading.{byteFrom, sliceFrom, fixedFrom}
 use Rattle.tags.specs.Reading.{numberFrom, tagValueFrom, tagAfter, tagFrom}
 use Rattle.walk.specs.Tag.{itemFrom}
-use Rattle.walk.specs.Walk.{seen, walked, stepFrom, walkFor, walkOn, walkFrom, Report, report, reported}
+use Rattle.walk.specs.Walk.{seen, walked, Step, ends, goes, stepFrom, walkFor, walkOn, walkFrom, Report, report, reported}
+use Rattle.walk.specs.Step.{opened, stepAt}
 
 -- 3E 2F 3F; 3E 4E 3F; 3E 21 07 3F; 3E 15 3F 3F; 3E 3E 3F; 3E 24 00 3F; an octet string of 4,294,967,295 bytes; seventeen openings; no bytes
 abbrev pub given : List Report
@@ -38,6 +40,40 @@ expected =
 pub examples : given ≡ expected
 unfolding byteFrom sliceFrom fixedFrom numberFrom tagValueFrom tagAfter tagFrom itemFrom stepFrom walkFor walkOn walkFrom
 examples = refl
+
+-- steps: 3E; 3F where block 3 is open, where blocks 3 and 4 are, and where there was one of number 3 that is closed; an opening where sixteen are open; no bytes, with no block open and with one; 0F and 3F where seventeen are said to be open, of which the innermost has no place; a place past the end
+abbrev sixteen : List ℕ
+sixteen = 3 ∷ 3 ∷ 3 ∷ 3 ∷ 3 ∷ 3 ∷ 3 ∷ 3 ∷ 3 ∷ 3 ∷ 3 ∷ 3 ∷ 3 ∷ 3 ∷ 3 ∷ 3 ∷ []
+
+abbrev pub stepsGiven : List Step
+stepsGiven =
+    stepAt (0x3E ∷ []) 0 (opened 0 sixteen)
+    ∷ stepAt (0x3F ∷ []) 0 (opened 1 (3 ∷ 4 ∷ []))
+    ∷ stepAt (0x3F ∷ []) 0 (opened 2 (3 ∷ 4 ∷ []))
+    ∷ stepAt (0x3F ∷ []) 0 (opened 0 (3 ∷ 4 ∷ []))
+    ∷ stepAt (0x3E ∷ []) 0 (opened 16 sixteen)
+    ∷ stepAt [] 0 (opened 0 sixteen)
+    ∷ stepAt [] 0 (opened 1 sixteen)
+    ∷ stepAt (0x0F ∷ []) 0 (opened 17 sixteen)
+    ∷ stepAt (0x3F ∷ []) 0 (opened 17 sixteen)
+    ∷ stepAt [] 1 (opened 0 sixteen) ∷ []
+
+abbrev pub stepsExpected : List Step
+stepsExpected =
+    goes (seen 0 0 (tag (opening 3) 0)) 1 (3 ∷ [])
+    ∷ goes (seen 0 0 (tag (closing 3) 0)) 1 []
+    ∷ ends (stopped 15 (amount 0))
+    ∷ ends (stopped 15 (amount 0))
+    ∷ ends (stopped 16 (amount 0))
+    ∷ ends passed
+    ∷ ends (stopped 3 (amount 0))
+    ∷ goes (seen 0 16 (tag (closing 0) 0)) 1 sixteen
+    ∷ ends (stopped 15 (amount 0))
+    ∷ ends (stopped 2 (amount 1)) ∷ []
+
+pub steps : stepsGiven ≡ stepsExpected
+unfolding byteFrom sliceFrom fixedFrom numberFrom tagValueFrom tagAfter tagFrom itemFrom stepFrom stepAt
+steps = refl
 
 -- 30 01 0C 0C 00 80 00 05 19 55 3E 44 42 90 00 00 3F, from place 3: the five tags that the program prints
 pub frame : walkFrom (0x30 ∷ 0x01 ∷ 0x0C ∷ 0x0C ∷ 0x00 ∷ 0x80 ∷ 0x00 ∷ 0x05 ∷ 0x19 ∷ 0x55 ∷ 0x3E ∷ 0x44 ∷ 0x42 ∷ 0x90 ∷ 0x00 ∷ 0x00 ∷ 0x3F ∷ []) 3

@@ -23,7 +23,7 @@ use Rattle.tags.specs.Reading.{tagFrom}
 use Rattle.walk.specs.Tag.{itemFrom, Standing, standing, standsBy, standsAt, tagAt}
 use Rattle.walk.specs.Walk.{seen, Step, ends, goes, closingStep, atEnd, stepFrom}
 use Rattle.walk.specs.Step.{opened, stepAt, openAfter, openThen, paperStepped}
-use Rattle.walk.specs.Fitting.{fitsBy, Keepable, endBy}
+use Rattle.walk.specs.Fitting.{fitsBy, Keepable, endsBy}
 use Rattle.walk.specs.declared.stepping.Stepped.{Stepped}
 use Rattle.walk.specs.declared.stepping.Stepped.the-variants as p
 use Rattle.walk.proofs.Unfolds.{end-step}
@@ -140,7 +140,7 @@ module _ (xs : List ℕ) (place blocks : ℕ) (os : List ℕ) where
 
   module _ (n : ℕ) (c : Carried) (e : tagAt xs place blocks ≡ refused n c) where
     abbrev Ends : Step → Type 0
-    Ends st = st ≡ ends (endBy (length xs) place blocks (stopped n c))
+    Ends st = st ≡ ends (endsBy (length xs) place blocks (stopped n c))
 
     abbrev outcome : Answer Standing → Outcome
     outcome (accepted s next) = passed
@@ -151,7 +151,7 @@ module _ (xs : List ℕ) (place blocks : ℕ) (os : List ℕ) where
     known h = ap outcome (sym h ∙ e)
 
     -- it stands where the buffer is too long, and away from the end
-    stands-long : 65535 < length xs → endBy (length xs) place blocks (stopped n c) ≡ stopped n c
+    stands-long : 65535 < length xs → endsBy (length xs) place blocks (stopped n c) ≡ stopped n c
     stands-long h = by (eqb place (length xs)) (eqb blocks 0)
       where
         by : (a b : Bool) → if a (if b (if (leb (length xs) 65535) passed (stopped n c)) (stopped n c)) (stopped n c) ≡ stopped n c
@@ -159,7 +159,7 @@ module _ (xs : List ℕ) (place blocks : ℕ) (os : List ℕ) where
         by true false = refl
         by false b = refl
 
-    stands-away : (place ≡ length xs → ⊥) → endBy (length xs) place blocks (stopped n c) ≡ stopped n c
+    stands-away : (place ≡ length xs → ⊥) → endsBy (length xs) place blocks (stopped n c) ≡ stopped n c
     stands-away h = rw (ne-eqb place (length xs) h) refl
 
     ends-at-end : length xs ≤ 65535 → place ≡ length xs → Ends (stepFrom xs place (opened blocks os))
@@ -174,7 +174,7 @@ module _ (xs : List ℕ) (place blocks : ℕ) (os : List ℕ) where
         let z : place ≡ length xs → ⊥ = eqb-false place (length xs) u in
         agreed (refused n c) (omega arith) e ∙ ap ends (sym (stands-away z)))
 
-    pub refused-step : stepAt xs place (opened blocks os) ≡ ends (endBy (length xs) place blocks (stopped n c))
+    pub refused-step : stepAt xs place (opened blocks os) ≡ ends (endsBy (length xs) place blocks (stopped n c))
     unfolding stepAt
     refused-step =
         either Ends (ltb 65535 (length xs)) (λ u.
@@ -214,5 +214,5 @@ module _ (xs : List ℕ) (place blocks : ℕ) (os left : List ℕ) where
     told-misfit f =
         told (p.Ended (o.Refused (x.ClosingWithoutOpening place))) _ (misfit-step xs place blocks os (standing (tagOf t) depth inside) next e l f) refl (k ∙ misfit-kept (tagOf t .number) depth os f)
 
-  pub told-ended : (n : ℕ) (c : Carried) (q : program-outcome.Outcome) → tagAt xs place blocks ≡ refused n c → left ≡ os → paperOutcome q ≡ endBy (length xs) place blocks (stopped n c) → Told (p.Ended q)
+  pub told-ended : (n : ℕ) (c : Carried) (q : program-outcome.Outcome) → tagAt xs place blocks ≡ refused n c → left ≡ os → paperOutcome q ≡ endsBy (length xs) place blocks (stopped n c) → Told (p.Ended q)
   told-ended n c q e k h = told (p.Ended q) _ (refused-step xs place blocks os n c e) (ap ends h) k

@@ -24,5 +24,5 @@ Keepable (opening n) depth places = depth < places
 Keepable (closing n) depth places = Unit {0}
 
 -- where a tag is refused: at the end of a buffer that is not too long the walk passes with no block open, and else ends as the tag does
-abbrev pub endBy : (end place blocks : ℕ) → Outcome → Outcome
-endBy end place blocks o = if (eqb place end) (if (eqb blocks 0) (if (leb end 65535) passed o) o) o
+abbrev pub endsBy : (end place blocks : ℕ) → Outcome → Outcome
+endsBy end place blocks o = if (eqb place end) (if (eqb blocks 0) (if (leb end 65535) passed o) o) o

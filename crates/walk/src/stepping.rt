@@ -5,7 +5,7 @@ ghost use Rattle.types.specs.Tag.{tagOf};
 ghost use Rattle.types.specs.Refusal.{table};
 ghost use Rattle.types.specs.Answer.{stopped, paperOutcome};
 ghost use Rattle.walk.specs.Step.{opened, stepAt, openAfter, openThen, paperStepped};
-ghost use Rattle.walk.specs.Fitting.{Keepable, fitsBy, endBy};
+ghost use Rattle.walk.specs.Fitting.{Keepable, fitsBy, endsBy};
 use crate::tag::TagAt;
 use crate::tag::tag_at;
 use types::Outcome;
@@ -24,7 +24,7 @@ pub enum Stepped {
     Ended(Outcome),
 }
 
-// The walk's tag at a place where so many blocks are open, whose numbers stand in `numbers`, outermost first; or how the walk ends there.
+// One step of the walk, at a place where so many blocks are open: the tag there, or how the walk ends. Their numbers stand in `numbers`, outermost first; a block that opens has its number put behind them.
 pub fn step(buf: &[u8], place: usize, blocks: usize, numbers: &mut [u8; 16]) -> Stepped
     ensures { λ r. ⌜ paperStepped place (now (numbers .exit)) r ≡ stepAt (now (buf .entry)) place (opened blocks (now (numbers .entry))) ⌝ }
     ensures { λ r. ⌜ now (numbers .exit) ≡ openThen (stepAt (now (buf .entry)) place (opened blocks (now (numbers .entry)))) (now (numbers .entry)) ⌝ }
@@ -50,7 +50,7 @@ pub fn step(buf: &[u8], place: usize, blocks: usize, numbers: &mut [u8; 16]) -> 
     }
 }
 
-// Whether a tag fits the open blocks: a closing tag has the number of the block at its depth, and an opening tag gives that block its number.
+// Whether a tag fits the open blocks: a closing tag needs the number of the block at its depth, and an opening tag puts its own there.
 fn fits(numbers: &mut [u8], depth: usize, tag: Tag) -> bool
     requires { ⌜ Keepable (tagOf tag .number) depth (length (now numbers)) ⌝ }
     ensures { λ r. ⌜ r ≡ fitsBy (tagOf tag .number) depth (now (numbers .entry)) ⌝ }
@@ -72,9 +72,9 @@ fn fits(numbers: &mut [u8], depth: usize, tag: Tag) -> bool
     }
 }
 
-// How the walk ends where a tag is refused: it passes at the buffer's end with no block open.
+// How the walk ends where a tag is refused: by that refusal, unless the place is the buffer's end and no block is open.
 fn end_by(end: usize, place: usize, blocks: usize, refusal: Refusal) -> Outcome
-    ensures { λ r. ⌜ paperOutcome r ≡ endBy end place blocks (stopped (table refusal .number) (table refusal .carries)) ⌝ }
+    ensures { λ r. ⌜ paperOutcome r ≡ endsBy end place blocks (stopped (table refusal .number) (table refusal .carries)) ⌝ }
 {
     if place == end && blocks == 0 && end <= 65535 {
         Outcome::Passed

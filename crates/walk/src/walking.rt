@@ -64,13 +64,13 @@ pub fn walk(buf: &[u8], place: usize) -> Walked
             outcome: Outcome::Passed,
         },
         ListWalked::Closing {
-            place: at,
+            place: closing,
             number: _,
             next: _,
             tags,
         } => Walked {
             tags,
-            outcome: Outcome::Refused(Refusal::ClosingWithoutOpening(at)),
+            outcome: Outcome::Refused(Refusal::ClosingWithoutOpening(closing)),
         },
         ListWalked::Refused { refusal, tags } => Walked {
             tags,

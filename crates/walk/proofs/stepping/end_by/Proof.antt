@@ -1,4 +1,4 @@
--- `walk::end_by` meets its contract: the tests say which case of `endBy` holds.
+-- `walk::end_by` meets its contract: the tests say which case of `endsBy` holds.
 -- Assumes nothing.
 use mathlib.Core.Path.{_≡_}
 use mathlib.Core.Bool.{true, false}

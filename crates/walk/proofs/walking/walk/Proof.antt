@@ -17,8 +17,8 @@ walk-list-requires c κs = search needs
 enum-known-tags : tie.Need-enum-known-tags
 enum-known-tags c = search needs
 
-enum-known-at : tie.Need-enum-known-at
-enum-known-at c = search needs
+enum-known-closing : tie.Need-enum-known-closing
+enum-known-closing c = search needs
 
 enum-known-refusal : tie.Need-enum-known-refusal
 enum-known-refusal c = search needs
@@ -27,10 +27,10 @@ returns-3 : tie.Need-returns-3
 returns-3 c = let a = c .before .before .before .before .before .before .before .args in walk-by (a .buf .now) (a .place) (c .before .before .before .before .before .if1 .left) (c .before .before .before .before .if2 .left) (c .before .before .before .walk-list .ensures) (c .before .tags .given .1)
 
 returns-4 : tie.Need-returns-4
-returns-4 c = let a = c .before .before .before .before .before .before .before .args in walk-by (a .buf .now) (a .place) (c .before .before .before .before .before .if1 .left) (c .before .before .before .before .if2 .left) (c .before .before .before .walk-list .ensures) (c .before .at .given .1)
+returns-4 c = let a = c .before .before .before .before .before .before .before .args in walk-by (a .buf .now) (a .place) (c .before .before .before .before .before .if1 .left) (c .before .before .before .before .if2 .left) (c .before .before .before .walk-list .ensures) (c .before .closing .given .1)
 
 returns-5 : tie.Need-returns-5
 returns-5 c = let a = c .before .before .before .before .before .before .before .args in walk-by (a .buf .now) (a .place) (c .before .before .before .before .before .if1 .left) (c .before .before .before .before .if2 .left) (c .before .before .before .walk-list .ensures) (c .before .refusal .given .1)
 
 pub walk-spec : {M : Type 1} → statement M
-walk-spec = tie.close (tie.spec returns returns-2 walk-list-requires enum-known-tags enum-known-at enum-known-refusal returns-3 returns-4 returns-5)
+walk-spec = tie.close (tie.spec returns returns-2 walk-list-requires enum-known-tags enum-known-closing enum-known-refusal returns-3 returns-4 returns-5)
