@@ -154,5 +154,5 @@ pub(crate) fn put_refused(out: &mut [u8], at: usize, number: u64, refusal: Refus
 {
     let second = put_number(out, at, number, b' ');
     let third = put_word(out, second, b"refused ");
-    put_number(out, third, refusal.number() as u64, b'\n')
+    put_number(out, third, refusal.row().number as u64, b'\n')
 }

@@ -30,10 +30,10 @@ pub(crate) fn arguments(
     let mut read = 0;
     let mut lent = 0;
     let mut end = word_end(line, 0);
-    let mut at = kinds;
-    while at < table.len() {
-        let kind = table[at];
-        at += 1;
+    let mut place = kinds;
+    while place < table.len() {
+        let kind = table[place];
+        place += 1;
         if kind == b' ' || 6 <= given {
             break;
         }

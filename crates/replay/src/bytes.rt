@@ -13,15 +13,15 @@ fn pairs(line: &[u8], start: usize, buf: &mut [u8]) -> Found
     ensures { λ r. ⌜ r .value ≤ length (now (buf .exit)) ⌝ }
 {
     let mut count = 0;
-    let mut at = start;
-    while at < line.len() {
-        if line[at] == b' ' {
+    let mut place = start;
+    while place < line.len() {
+        if line[place] == b' ' {
             break;
         }
-        if line.len() - at < 2 {
+        if line.len() - place < 2 {
             return nothing();
         }
-        let byte = digit(line[at]) * 16 + digit(line[at + 1]);
+        let byte = digit(line[place]) * 16 + digit(line[place + 1]);
         if 255 < byte {
             return nothing();
         }
@@ -30,14 +30,14 @@ fn pairs(line: &[u8], start: usize, buf: &mut [u8]) -> Found
         }
         buf[count] = byte as u8;
         count += 1;
-        at += 2;
+        place += 2;
     }
     if count == 0 {
         return nothing();
     }
     Found {
         value: count as u64,
-        end: at,
+        end: place,
     }
 }
 
@@ -51,10 +51,10 @@ fn fill(buf: &mut [u8]) {
 }
 
 // Puts the bytes that the hexadecimal behind a place stands for at the start of the buffer; a dash stands for none.
-pub(crate) fn bytes(line: &[u8], from: usize, buf: &mut [u8]) -> Found
+pub(crate) fn bytes(line: &[u8], place: usize, buf: &mut [u8]) -> Found
     ensures { λ r. ⌜ r .value ≤ length (now (buf .exit)) ⌝ }
 {
-    let start = behind(b' ', line, from);
+    let start = behind(b' ', line, place);
     let end = behind(b'-', line, start);
     if end != NOWHERE {
         return Found { value: 0, end };
@@ -63,12 +63,12 @@ pub(crate) fn bytes(line: &[u8], from: usize, buf: &mut [u8]) -> Found
 }
 
 // The same for a buffer to be written, where an at sign and a number stand for so many bytes of AA too.
-pub(crate) fn lent_bytes(line: &[u8], from: usize, buf: &mut [u8]) -> Found
+pub(crate) fn lent_bytes(line: &[u8], place: usize, buf: &mut [u8]) -> Found
     ensures { λ r. ⌜ r .value ≤ length (now (buf .exit)) ⌝ }
 {
-    let sign = behind(b'@', line, behind(b' ', line, from));
+    let sign = behind(b'@', line, behind(b' ', line, place));
     if sign == NOWHERE {
-        return bytes(line, from, buf);
+        return bytes(line, place, buf);
     }
     let found = digits(70000, line, sign);
     let count = found.value as usize;

@@ -3,7 +3,7 @@ use crate::number::byte;
 use crate::number::signed;
 use crate::number::word;
 
-// Calls a read.
+// Puts what the exported reader of that number answers into the answer.
 pub(crate) fn read(function: usize, n: [u64; 6], buf: &[u8], answer: &mut [u64; 8]) {
     match function {
         0 => thaolisem::thaolisem_decode_tag(buf, n[0] as usize, answer),
@@ -24,7 +24,7 @@ pub(crate) fn read(function: usize, n: [u64; 6], buf: &[u8], answer: &mut [u64; 
     }
 }
 
-// Calls the writer of a tag, an integer or a boolean.
+// Puts what the exported writer of a tag, an integer or a boolean answers into the answer.
 fn write_tagged(function: usize, n: [u64; 6], buf: &mut [u8], answer: &mut [u64; 8]) {
     let first = byte(n[0]);
     let second = byte(n[1]);
@@ -38,7 +38,7 @@ fn write_tagged(function: usize, n: [u64; 6], buf: &mut [u8], answer: &mut [u64;
     }
 }
 
-// Calls a writer.
+// Puts what the exported writer of that number answers into the answer.
 pub(crate) fn write(
     function: usize,
     n: [u64; 6],

@@ -24,39 +24,17 @@ pub(crate) fn names(function: usize, n: [u64; 6]) -> bool {
     }
 }
 
-// The application tag's name for a number below 16.
-fn application(number: u8) -> ApplicationTagNumber {
-    match number {
-        0 => ApplicationTagNumber::Null,
-        1 => ApplicationTagNumber::Boolean,
-        2 => ApplicationTagNumber::UnsignedInt,
-        3 => ApplicationTagNumber::SignedInt,
-        4 => ApplicationTagNumber::Real,
-        5 => ApplicationTagNumber::Double,
-        6 => ApplicationTagNumber::OctetString,
-        7 => ApplicationTagNumber::CharacterString,
-        8 => ApplicationTagNumber::BitString,
-        9 => ApplicationTagNumber::Enumerated,
-        10 => ApplicationTagNumber::Date,
-        11 => ApplicationTagNumber::Time,
-        12 => ApplicationTagNumber::ObjectId,
-        13 => ApplicationTagNumber::Reserve1,
-        14 => ApplicationTagNumber::Reserve2,
-        _ => ApplicationTagNumber::Reserve3,
-    }
-}
-
-// The tag number of one of the four classes.
+// The tag number of a class and a number.
 fn expected(class: u64, number: u8) -> TagNumber {
     match class {
-        1 => TagNumber::Application(application(number)),
+        1 => TagNumber::Application(ApplicationTagNumber::named(number)),
         2 => TagNumber::ContextSpecific(number),
         3 => TagNumber::ContextSpecificOpening(number),
         _ => TagNumber::ContextSpecificClosing(number),
     }
 }
 
-// Reads 2, 4 or 8 bytes.
+// What the read of 2, 4 or 8 bytes answers.
 fn read_bytes(count: u64, buf: &[u8], place: usize) -> [u64; 8] {
     match count {
         2 => told::word(numbers::read_two_bytes(buf, place)),
@@ -68,7 +46,7 @@ fn read_bytes(count: u64, buf: &[u8], place: usize) -> [u64; 8] {
     }
 }
 
-// Calls one of the first three, which read bytes.
+// What a reader of bytes answers, which are the first three.
 fn read_plain(function: usize, n: [u64; 6], buf: &[u8]) -> [u64; 8] {
     match function {
         9 => match numbers::read_byte(buf, n[0] as usize) {
@@ -80,7 +58,7 @@ fn read_plain(function: usize, n: [u64; 6], buf: &[u8]) -> [u64; 8] {
     }
 }
 
-// Calls a read.
+// What the reader of that number answers.
 pub(crate) fn read(function: usize, n: [u64; 6], buf: &[u8]) -> [u64; 8] {
     match function {
         9..=11 => read_plain(function, n, buf),
@@ -102,7 +80,7 @@ pub(crate) fn read(function: usize, n: [u64; 6], buf: &[u8]) -> [u64; 8] {
     }
 }
 
-// Calls a writer.
+// What the writer of that number answers.
 pub(crate) fn write(function: usize, n: [u64; 6], content: &[u8], buf: &mut [u8]) -> [u64; 8] {
     let first = byte(n[0]);
     let place = n[1] as usize;

@@ -12,7 +12,7 @@ use crate::words::named_by;
 // The most characters of a line.
 const LONGEST_LINE: usize = 140000;
 
-// What the call of a function but the last answers.
+// The eight numbers that the call of a function answers, of any but the last.
 fn answer_of(function: usize, n: [u64; 6], content: &[u8], buf: &mut [u8]) -> [u64; 8] {
     let mut answer = [0u64; 8];
     match function {
@@ -29,7 +29,7 @@ fn answer_of(function: usize, n: [u64; 6], content: &[u8], buf: &mut [u8]) -> [u
     }
 }
 
-// Puts what the call of a function answers, and behind it what was lent to be written.
+// Puts what the call of a function answers, and behind it what was lent to be written; answers the text's end.
 fn put_answer(
     function: usize,
     n: [u64; 6],
@@ -48,7 +48,7 @@ fn put_answer(
     put_bytes(buf, text, end)
 }
 
-// Puts the answer to a line. In the table the kinds of its arguments follow each function's name; its rows begin with the functions 0, 9, 15 and 22.
+// Puts the answer to a line; answers the text's end. In the table the kinds of its arguments follow each function's name; its rows begin with the functions 0, 9, 15 and 22.
 pub(crate) fn put_line(line: &[u8], content: &mut [u8], buf: &mut [u8], text: &mut [u8]) -> usize {
     let table =
         b"decode_tag rn decode_unsigned wrn decode_signed wrn get_tagged_body nrn get_tagged_body_for_tag bnrn walk rn decode_value rn decode_header rn check_utf8 r \

@@ -42,10 +42,10 @@ fn take(
     ensures { λ r. ⌜ r ≤ length (now (line .exit)) ⌝ }
 {
     let mut len = before;
-    let mut at = 0;
-    while at < piece.len() {
-        let byte = piece[at];
-        at += 1;
+    let mut place = 0;
+    while place < piece.len() {
+        let byte = piece[place];
+        place += 1;
         if byte == b'\n' {
             answer_line(&line[0..len], content, buf, text);
             len = 0;

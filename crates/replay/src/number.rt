@@ -19,12 +19,12 @@ pub(crate) fn digit(byte: u8) -> u64
 // The number, no more than the most, whose digits begin at a place.
 pub(crate) fn digits(most: u64, line: &[u8], start: usize) -> Found {
     let mut value: u64 = 0;
-    let mut at = start;
-    while at < line.len() {
-        if line[at] == b' ' {
+    let mut place = start;
+    while place < line.len() {
+        if line[place] == b' ' {
             break;
         }
-        let next = digit(line[at]);
+        let next = digit(line[place]);
         if 9 < next {
             return nothing();
         }
@@ -35,12 +35,12 @@ pub(crate) fn digits(most: u64, line: &[u8], start: usize) -> Found {
             return nothing();
         }
         value = value * 10 + next;
-        at += 1;
+        place += 1;
     }
-    if at == start {
+    if place == start {
         return nothing();
     }
-    Found { value, end: at }
+    Found { value, end: place }
 }
 
 // The number of 64 bits with its sign that begins at a place, in two's complement.
@@ -60,8 +60,8 @@ fn signed_digits(line: &[u8], start: usize) -> Found {
 }
 
 // The number of a kind behind a place: b has 8 bits, w 32, n 64, and s 64 with a sign.
-pub(crate) fn number(kind: u8, line: &[u8], from: usize) -> Found {
-    let start = behind(b' ', line, from);
+pub(crate) fn number(kind: u8, line: &[u8], place: usize) -> Found {
+    let start = behind(b' ', line, place);
     match kind {
         b'b' => digits(255, line, start),
         b'w' => digits(4294967295, line, start),

@@ -4,14 +4,14 @@ use crate::text::put_numbers;
 use crate::told;
 use numbers::SliceRead;
 
-// Puts what the call for the part of that length from a place on answers.
-pub(crate) fn put_part(len: u32, buf: &[u8], place: usize, text: &mut [u8], at: usize) -> usize {
+// Puts what the call for the part of that length from a place on answers at the end of the text; answers its new end.
+pub(crate) fn put_part(len: u32, buf: &[u8], place: usize, text: &mut [u8], end: usize) -> usize {
     let read = numbers::part(len, buf, place);
-    put_read(read.outcome, read.bytes, text, at)
+    put_read(read.outcome, read.bytes, text, end)
 }
 
-// Puts whether there is a part, and the bytes that are handed over.
-fn put_read(outcome: SliceRead, bytes: &[u8], text: &mut [u8], at: usize) -> usize {
-    let behind = put_numbers(told::slice(outcome), text, at);
-    put_bytes(bytes, text, behind)
+// Puts where the part lies, and the bytes that are handed over, at the end of the text; answers its new end.
+fn put_read(outcome: SliceRead, bytes: &[u8], text: &mut [u8], end: usize) -> usize {
+    let next = put_numbers(told::slice(outcome), text, end);
+    put_bytes(bytes, text, next)
 }

@@ -1,32 +1,32 @@
-// Puts bytes into a lent text from a place on, and answers the place behind them. Where they have no room nothing is put:
+// Puts bytes and numbers into a lent text. Where they have no room nothing is put, and the place is answered as it was:
 // the text is long enough for every answer.
 
-// Puts bytes.
-pub(crate) fn put(bytes: &[u8], text: &mut [u8], at: usize) -> usize {
-    if text.len() < at {
-        return at;
+// Puts bytes at a place; answers the place behind them.
+pub(crate) fn put(bytes: &[u8], text: &mut [u8], place: usize) -> usize {
+    if text.len() < place {
+        return place;
     }
-    if text.len() - at < bytes.len() {
-        return at;
+    if text.len() - place < bytes.len() {
+        return place;
     }
     let mut done = 0;
     while done < bytes.len() {
-        text[at + done] = bytes[done];
+        text[place + done] = bytes[done];
         done += 1;
     }
-    at + done
+    place + done
 }
 
-// Puts a number in decimal.
-fn put_number(number: u64, text: &mut [u8], at: usize) -> usize {
+// Puts a number in decimal at a place; answers the place behind it.
+fn put_number(number: u64, text: &mut [u8], place: usize) -> usize {
     let mut digits = [0u8; 20];
     let count = io::decimal(number, &mut digits);
-    put(&digits[0..count], text, at)
+    put(&digits[0..count], text, place)
 }
 
-// Puts the eight numbers, with a space between two.
-pub(crate) fn put_numbers(numbers: [u64; 8], text: &mut [u8], at: usize) -> usize {
-    let mut end = put_number(numbers[0], text, at);
+// Puts eight numbers at a place, with a space between two; answers the place behind them.
+pub(crate) fn put_numbers(numbers: [u64; 8], text: &mut [u8], place: usize) -> usize {
+    let mut end = put_number(numbers[0], text, place);
     let mut done = 1;
     while done < 8 {
         let behind = put(b" ", text, end);
@@ -36,13 +36,13 @@ pub(crate) fn put_numbers(numbers: [u64; 8], text: &mut [u8], at: usize) -> usiz
     end
 }
 
-// Puts a space and bytes in hexadecimal; a dash for none.
-pub(crate) fn put_bytes(bytes: &[u8], text: &mut [u8], at: usize) -> usize {
+// Puts a space and bytes in hexadecimal, a dash for none, at a place; answers the place behind them.
+pub(crate) fn put_bytes(bytes: &[u8], text: &mut [u8], place: usize) -> usize {
     if bytes.len() == 0 {
-        return put(b" -", text, at);
+        return put(b" -", text, place);
     }
     let mut digits = [0u8; 16];
-    let mut end = put(b" ", text, at);
+    let mut end = put(b" ", text, place);
     let mut done = 0;
     while done < bytes.len() {
         let count = io::hex(bytes[done] as u64, 2, &mut digits);

@@ -5,37 +5,40 @@ use types::Carried;
 use types::Outcome;
 use types::Refusal;
 use types::Tag;
-use types::TagNumber;
 use types::Written;
 
-// The place after what was read or written, and two numbers.
+// The eight numbers of what was accepted: the place after it, and two numbers.
 pub(crate) fn accepted(next: usize, a: u64, b: u64) -> [u64; 8] {
     [0, next as u64, a, b, 0, 0, 0, 0]
 }
 
-// A tag behind a refusal's number, or behind 0 and the place after it.
+// The eight numbers of a tag: behind a refusal's number and 0, or behind 0 and the place after it.
 pub(crate) fn tag(first: u64, next: usize, tag: Tag) -> [u64; 8] {
-    let next = next as u64;
-    let value = tag.value as u64;
     let number = tag.number;
-    match number {
-        TagNumber::Application(name) => [first, next, 1, name.number() as u64, value, 0, 0, 0],
-        TagNumber::ContextSpecific(n) => [first, next, 2, n as u64, value, 0, 0, 0],
-        TagNumber::ContextSpecificOpening(n) => [first, next, 3, n as u64, value, 0, 0, 0],
-        TagNumber::ContextSpecificClosing(n) => [first, next, 4, n as u64, value, 0, 0, 0],
-    }
+    [
+        first,
+        next as u64,
+        number.class() as u64,
+        number.number() as u64,
+        tag.value as u64,
+        0,
+        0,
+        0,
+    ]
 }
 
-// A refusal.
+// The eight numbers of a refusal.
 pub(crate) fn refused(refusal: Refusal) -> [u64; 8] {
-    let number = refusal.number() as u64;
-    match refusal.carried() {
+    let row = refusal.row();
+    let number = row.number as u64;
+    let carried = row.carried;
+    match carried {
         Carried::Amount(amount) => [number, 0, 0, amount as u64, 0, 0, 0, 0],
         Carried::TagFound(found) => tag(number, 0, found),
     }
 }
 
-// A read of two or four bytes.
+// The eight numbers of a read of two or four bytes.
 pub(crate) fn word(read: WordRead) -> [u64; 8] {
     match read {
         WordRead::Word(word, next) => accepted(next, word as u64, 0),
@@ -43,7 +46,7 @@ pub(crate) fn word(read: WordRead) -> [u64; 8] {
     }
 }
 
-// Where a slice lies.
+// The eight numbers of where a slice lies.
 pub(crate) fn slice(read: SliceRead) -> [u64; 8] {
     match read {
         SliceRead::Slice { start, len, next } => accepted(next, start as u64, len as u64),
@@ -51,7 +54,7 @@ pub(crate) fn slice(read: SliceRead) -> [u64; 8] {
     }
 }
 
-// What became of what was expected of a tag, with the place after it.
+// The eight numbers of what became of what was expected of a tag, with the place after it.
 pub(crate) fn outcome(outcome: Outcome, next: usize) -> [u64; 8] {
     match outcome {
         Outcome::Passed => accepted(next, 0, 0),
@@ -59,7 +62,7 @@ pub(crate) fn outcome(outcome: Outcome, next: usize) -> [u64; 8] {
     }
 }
 
-// A write.
+// The eight numbers of a write.
 pub(crate) fn written(written: Written) -> [u64; 8] {
     match written {
         Written::To(next) => accepted(next, 0, 0),

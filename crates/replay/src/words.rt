@@ -28,58 +28,58 @@ pub(crate) fn nothing() -> Found
 }
 
 // The place behind that byte, where it stands at a place.
-pub(crate) fn behind(byte: u8, line: &[u8], from: usize) -> usize {
-    if line.len() <= from {
+pub(crate) fn behind(byte: u8, line: &[u8], place: usize) -> usize {
+    if line.len() <= place {
         return NOWHERE;
     }
-    if line[from] != byte {
+    if line[place] != byte {
         return NOWHERE;
     }
-    from + 1
+    place + 1
 }
 
 // Where the word that begins at a place ends.
 pub(crate) fn word_end(line: &[u8], start: usize) -> usize
     ensures { λ r. ⌜ start ≤ r ⌝ }
 {
-    let mut at = start;
-    while at < line.len() {
-        if line[at] == b' ' {
-            return at;
+    let mut place = start;
+    while place < line.len() {
+        if line[place] == b' ' {
+            return place;
         }
-        at += 1;
+        place += 1;
     }
-    at
+    place
 }
 
 // Whether the word that begins at a place of the table is the first of a line.
-fn begins_with(table: &[u8], from: usize, line: &[u8]) -> bool {
-    let mut at = from;
+fn begins_with(table: &[u8], start: usize, line: &[u8]) -> bool {
+    let mut place = start;
     let mut end = 0;
-    while at < table.len() {
-        if table[at] == b' ' {
+    while place < table.len() {
+        if table[place] == b' ' {
             break;
         }
-        end = behind(table[at], line, end);
-        at += 1;
+        end = behind(table[place], line, end);
+        place += 1;
     }
     end == word_end(line, 0)
 }
 
 // The function of the table that the first word of a line names; NOWHERE where it names none.
 pub(crate) fn named_by(table: &[u8], line: &[u8]) -> Named {
-    let mut from = 0;
+    let mut place = 0;
     let mut function = 0;
-    while from < table.len() {
-        let kinds = behind(b' ', table, word_end(table, from));
-        if begins_with(table, from, line) {
+    while place < table.len() {
+        let kinds = behind(b' ', table, word_end(table, place));
+        if begins_with(table, place, line) {
             return Named { function, kinds };
         }
         let next = behind(b' ', table, word_end(table, kinds));
-        if next <= from {
+        if next <= place {
             break;
         }
-        from = next;
+        place = next;
         function += 1;
     }
     Named {

@@ -5,7 +5,7 @@ use native.Mathlib.Omega.{arith}
 use Prim.Native.Nat.{ℕ, _-_, _*_, _^_, _<_, _≤_}
 use mathlib.Core.Bool.{true, false}
 use mathlib.Core.List.{List, [], _∷_}
-use borrow.Author.Tests.{lt-ltb, le-ltb}
+use borrow.Author.Tests.{lt-ltb, le-ltb, ne-eqb}
 use lib.Dec.{eqb}
 use lib.ListN.{getD}
 use lib.IntN.{ℤ, pos, negsuc}
@@ -18,11 +18,12 @@ use Rattle.types.specs.Refusal.{Carried, amount, tagFound, table}
 use Rattle.types.specs.Answer.{Answer, accepted, refused, refusal, Outcome, passed, stopped, paperOutcome}
 use Rattle.types.specs.Writing.{paperWritten}
 use Rattle.types.specs.declared.refusal.Refusal.{Refusal}
-use Rattle.types.specs.declared.refusal.Refusal.the-variants as r
 use Rattle.types.specs.declared.outcome.Outcome as program-outcome
 use Rattle.types.specs.declared.outcome.Outcome.the-variants as o
 use Rattle.types.specs.declared.written.Written.{Written}
 use Rattle.types.specs.declared.written.Written.the-variants as w
+use Rattle.types.proofs.Class.{ofClass, class-back}
+use Rattle.types.proofs.Numbered.{number-above-0}
 use Rattle.types.proofs.Single.{single-written}
 use Rattle.numbers.specs.Integer.{patternOf, twosComplement}
 use Rattle.numbers.specs.Reading.{partAt, paperUnsigned, paperSigned}
@@ -59,7 +60,7 @@ use Rattle.headers.specs.declared.header.Header.the-variants as h
 use Rattle.headers.specs.declared.reading.HeaderRead.{HeaderRead}
 use Rattle.headers.specs.declared.reading.HeaderRead.the-variants as hr
 use Rattle.headers.proofs.Single.{single-header-read}
-use Rattle.thaolisem.specs.Told.{classOf, numberIn, toldRefusal, toldTag, toldUnsigned, toldSigned, toldBody, toldWalk, valueTold, toldValue, headerTold, toldHeader, toldCheck, toldWrite}
+use Rattle.thaolisem.specs.Told.{toldRefusal, toldTag, toldUnsigned, toldSigned, toldBody, toldWalk, valueTold, toldValue, headerTold, toldHeader, toldCheck, toldWrite}
 
 -- what can be told back from its numbers is told apart by them
 apart : {A B : Type 0} (told : A → B) (back : B → A) (x y : A) → back (told x) ≡ x → back (told y) ≡ y → told x ≡ told y → x ≡ y
@@ -69,57 +70,43 @@ apart told back x y ex ey e = sym ex ∙ ap back e ∙ ey
 abbrev at : List ℕ → ℕ → ℕ
 at l k = getD l k 0
 
-abbrev number : ℕ → ℕ → Number
-number class k = if (eqb class 1) (application k) (if (eqb class 2) (context k) (if (eqb class 3) (opening k) (closing k)))
-
-number-again : (x : Number) → number (classOf x) (numberIn x) ≡ x
-number-again (application k) = refl
-number-again (context k) = refl
-number-again (opening k) = refl
-number-again (closing k) = refl
-
 abbrev carried : List ℕ → Carried
-carried l = if (eqb (at l 2) 0) (amount (at l 3)) (tagFound (tag (number (at l 2) (at l 3)) (at l 4)))
+carried l = if (eqb (at l 2) 0) (amount (at l 3)) (tagFound (tag (ofClass (at l 2) (at l 3)) (at l 4)))
 
 -- an answer from its eight numbers, where an accepted one is known from them
 abbrev answer : {A : Type 0} → (List ℕ → Answer A) → List ℕ → Answer A
 answer given l = if (eqb (at l 0) 0) (given l) (refused (at l 0) (carried l))
 
-tag-found-again : (n tags v : ℕ) (x : Number) → carried (toldRefusal n (tagFound (tag x v)) tags) ≡ tagFound (tag x v)
-tag-found-again n tags v (application k) = refl
-tag-found-again n tags v (context k) = refl
-tag-found-again n tags v (opening k) = refl
-tag-found-again n tags v (closing k) = refl
+-- what was carried is known from the eight numbers of a refusal
+carried-again : (n tags : ℕ) (c : Carried) → carried (toldRefusal n c tags) ≡ c
+carried-again n tags (amount a) = refl
+carried-again n tags (tagFound t) = by-class (t .number) (t .value)
+  where
+    by-class : (x : Number) (v : ℕ) → carried (toldRefusal n (tagFound (tag x v)) tags) ≡ tagFound (tag x v)
+    by-class (application k) v = refl
+    by-class (context k) v = refl
+    by-class (opening k) v = refl
+    by-class (closing k) v = refl
+
+-- and so is the number, which is above 0
+number-again : (n tags : ℕ) (c : Carried) → at (toldRefusal n c tags) 0 ≡ n
+number-again n tags (amount a) = refl
+number-again n tags (tagFound t) = refl
 
 refusal-again : {A : Type 0} (given : List ℕ → Answer A) (x : Refusal) (tags : ℕ) → answer given (toldRefusal (table x .number) (table x .carries) tags) ≡ refusal x
-refusal-again given (r.BufferTooLong c) tags = refl
-refusal-again given (r.PlacePastEnd c) tags = refl
-refusal-again given (r.BytesRunOut c) tags = refl
-refusal-again given (r.OtherTagNumber c) tags = ap (refused 4) (tag-found-again 4 tags (c .value) (tagOf c .number))
-refusal-again given (r.OtherTagValue c) tags = ap (refused 5) (tag-found-again 5 tags (c .value) (tagOf c .number))
-refusal-again given (r.NoOpeningTag c) tags = ap (refused 6) (tag-found-again 6 tags (c .value) (tagOf c .number))
-refusal-again given (r.LengthNotAllowed c) tags = refl
-refusal-again given (r.NotAValueTag c) tags = ap (refused 8) (tag-found-again 8 tags (c .value) (tagOf c .number))
-refusal-again given (r.OtherCharacterSet c) tags = refl
-refusal-again given (r.TextNotUtf8 c) tags = refl
-refusal-again given (r.ServiceChoiceTooLarge c) tags = refl
-refusal-again given r.CannotBeWritten tags = refl
-refusal-again given (r.NoRoom c) tags = refl
-refusal-again given (r.AllowanceSpent c) tags = refl
-refusal-again given (r.ClosingWithoutOpening c) tags = refl
-refusal-again given (r.TooManyBlocksOpen c) tags = refl
-refusal-again given (r.OtherPduType c) tags = refl
-refusal-again given r.EnumeratedTooLarge tags = refl
-refusal-again given r.LineNotHexadecimal tags = refl
+refusal-again given x tags =
+    let n = table x .number in
+    let above : 0 < n = number-above-0 x in
+    simp (number-again n tags (table x .carries), ne-eqb n 0 (λ e. omega arith), carried-again n tags (table x .carries))
 
 abbrev tagFields : List ℕ → Answer Tag
-tagFields l = accepted (tag (number (at l 2) (at l 3)) (at l 4)) (at l 1)
+tagFields l = accepted (tag (ofClass (at l 2) (at l 3)) (at l 4)) (at l 1)
 
 abbrev tagBack : List ℕ → Answer Tag
 tagBack = answer tagFields
 
 tag-again : (x : TagRead) → tagBack (toldTag (paperTag x)) ≡ paperTag x
-tag-again (t.Read a next) = ap (λ (k : Number). accepted (tag k (a .value)) next) (number-again (tagOf a .number))
+tag-again (t.Read a next) = ap (λ (k : Number). accepted (tag k (a .value)) next) (class-back (tagOf a .number))
 tag-again (t.Refused x) = refusal-again tagFields x 0
 
 pub single-told-tag : (x y : TagRead) → toldTag (paperTag x) ≡ toldTag (paperTag y) → x ≡ y

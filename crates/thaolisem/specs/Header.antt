@@ -8,23 +8,23 @@ use Rattle.types.specs.Choice.{if}
 use Rattle.types.specs.Writing.{Left}
 use Rattle.headers.specs.Header.{Header, header, request, simple, complex, segment, nibbles, number, choice, headerOf}
 use Rattle.headers.specs.Writing.{headerTo}
-use Rattle.thaolisem.specs.Named.{ifAtMost, namedTo}
+use Rattle.thaolisem.specs.Named.{bytesNamed, ofBytes, namedTo}
 use Rattle.thaolisem.specs.declared.kind.HeaderNamed as program
 use Rattle.thaolisem.specs.declared.kind.HeaderNamed.the-variants as h
 
 unfoldable pub requestNamed : (segments size id service : ℕ) → Option Header
-requestNamed s m i c = ifAtMost 255 s (ifAtMost 255 m (ifAtMost 255 i (ifAtMost 255 c (some (header request (nibbles s m ∷ number i ∷ choice c ∷ []))))))
+requestNamed s m i c = ofBytes (bytesNamed s m i c) (λ x. some (header request (nibbles (x .first) (x .second) ∷ number (x .third) ∷ choice (x .fourth) ∷ [])))
 
 unfoldable pub segmentNamed : (id sequence window : ℕ) → Option Header
-segmentNamed i s w = ifAtMost 255 i (ifAtMost 255 s (ifAtMost 255 w (some (header segment (number i ∷ number s ∷ number w ∷ [])))))
+segmentNamed i s w = ofBytes (bytesNamed i s w 0) (λ x. some (header segment (number (x .first) ∷ number (x .second) ∷ number (x .third) ∷ [])))
 
 -- a simple acknowledgement is of type 2, a complex one of type 3
 unfoldable pub acknowledgementNamed : (kind id service : ℕ) → Option Header
 acknowledgementNamed kind i c =
-    ifAtMost 255 i (ifAtMost 255 c
-    (if (eqb kind 2) (some (header simple (number i ∷ choice c ∷ [])))
-    (if (eqb kind 3) (some (header complex (number i ∷ choice c ∷ [])))
-    none)))
+    ofBytes (bytesNamed i c 0 0)
+    (λ x. if (eqb kind 2) (some (header simple (number (x .first) ∷ choice (x .second) ∷ [])))
+    (if (eqb kind 3) (some (header complex (number (x .first) ∷ choice (x .second) ∷ [])))
+    none))
 
 unfoldable pub headerNamed : (kind first second third fourth : ℕ) → Option Header
 headerNamed kind a b c d =

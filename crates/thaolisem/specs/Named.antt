@@ -11,6 +11,8 @@ use Rattle.types.specs.Tag.{Number, application, context, opening, closing, tag
 use Rattle.types.specs.Writing.{Left, unwritable, writing}
 use Rattle.tags.specs.Writing.{tagTo}
 use Rattle.tags.specs.Item.{itemTo, numberUnder, booleanByte}
+use Rattle.thaolisem.specs.declared.bytes.BytesNamed as program-bytes
+use Rattle.thaolisem.specs.declared.bytes.BytesNamed.the-variants as b
 use Rattle.thaolisem.specs.declared.tag.NumberNamed as program-number
 use Rattle.thaolisem.specs.declared.tag.NumberNamed.the-variants as n
 use Rattle.thaolisem.specs.declared.integer.ContextTagNamed as program-under
@@ -24,6 +26,25 @@ namedTo lent none to xs place = writing lent unwritable [] xs place
 -- what is named where a number is at most so large
 abbrev pub ifAtMost : {A : Type 0} → (most number : ℕ) → Option A → Option A
 ifAtMost most x named = if (ltb most x) none named
+
+-- four numbers
+pub record Four : Type 0 where
+  pub first : ℕ
+  pub second : ℕ
+  pub third : ℕ
+  pub fourth : ℕ
+
+abbrev pub four : ℕ → ℕ → ℕ → ℕ → Four
+four a b c d = record { first = a; second = b; third = c; fourth = d }
+
+-- four numbers that fit a byte each
+unfoldable pub bytesNamed : (first second third fourth : ℕ) → Option Four
+bytesNamed a b c d = ifAtMost 255 a (ifAtMost 255 b (ifAtMost 255 c (ifAtMost 255 d (some (four a b c d)))))
+
+-- what they name, if they do
+abbrev pub ofBytes : {A : Type 0} → Option Four → (Four → Option A) → Option A
+ofBytes (some x) name = name x
+ofBytes none name = none
 
 -- an application tag's number goes to 15
 abbrev pub applicationNamed : ℕ → Option Number
@@ -59,6 +80,10 @@ unfoldable pub booleanNamedTo : (number boolean : ℕ) → List ℕ → (place :
 booleanNamedTo k b xs place = namedTo 0 (booleanNamed b) (λ x. itemTo (context k) (booleanByte x ∷ [])) xs place
 
 -- the program's enums for what is named
+abbrev pub paperBytes : program-bytes.BytesNamed → Option Four
+paperBytes (b.Bytes x y z w) = some (four x y z w)
+paperBytes b.Nothing = none
+
 abbrev pub paperNumberNamed : program-number.NumberNamed → Option Number
 paperNumberNamed (n.Number x) = some (numberOf x)
 paperNumberNamed n.Nothing = none

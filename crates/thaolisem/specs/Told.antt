@@ -5,7 +5,7 @@ use mathlib.Core.List.{List, [], _∷_}
 use lib.IntN.{ℤ}
 use lib.ListN.{getD}
 use lib.Ieee.{binary32, binary64, toBits}
-use Rattle.types.specs.Tag.{Number, application, context, opening, closing, Tag}
+use Rattle.types.specs.Tag.{Tag, classOf, numberIn}
 use Rattle.types.specs.Refusal.{Carried, amount, tagFound}
 use Rattle.types.specs.Answer.{Answer, accepted, refused, Outcome, passed, stopped}
 use Rattle.numbers.specs.Integer.{patternOf}
@@ -18,20 +18,6 @@ use Rattle.headers.specs.Header as headers
 -- eight numbers
 abbrev pub eight : ℕ → ℕ → ℕ → ℕ → ℕ → ℕ → ℕ → ℕ → List ℕ
 eight a b c d e f g h = a ∷ b ∷ c ∷ d ∷ e ∷ f ∷ g ∷ h ∷ []
-
--- the number of a tag's class
-abbrev pub classOf : Number → ℕ
-classOf (application n) = 1
-classOf (context n) = 2
-classOf (opening n) = 3
-classOf (closing n) = 4
-
--- the number that stands in a tag
-abbrev pub numberIn : Number → ℕ
-numberIn (application n) = n
-numberIn (context n) = n
-numberIn (opening n) = n
-numberIn (closing n) = n
 
 -- a refusal: its number; no place; what it carries, as 0 and an amount, or as the class, number and value of the tag found; and the count of tags, where there is one
 abbrev pub toldRefusal : ℕ → Carried → ℕ → List ℕ

@@ -12,15 +12,15 @@ use Rattle.numbers.specs.Integer.{twosComplement}
 use Rattle.numbers.specs.Reading.{partAt}
 use Rattle.values.specs.Value.{Value, boolean, real, double, onDate, atTime, objectId, characterString, octetString, enumerated, bitString, unsignedInt, signedInt, date, time, valueOf}
 use Rattle.values.specs.Writing.{valueTo}
-use Rattle.thaolisem.specs.Named.{ifAtMost, namedTo}
+use Rattle.thaolisem.specs.Named.{ifAtMost, bytesNamed, ofBytes, namedTo}
 use Rattle.thaolisem.specs.declared.named.ValueNamed as program
 use Rattle.thaolisem.specs.declared.named.ValueNamed.the-variants as v
 
 unfoldable pub dateNamed : (year month day weekday : ℕ) → Option Value
-dateNamed y m d w = ifAtMost 65535 y (ifAtMost 255 m (ifAtMost 255 d (ifAtMost 255 w (some (onDate (date y m d w))))))
+dateNamed y m d w = ifAtMost 65535 y (ofBytes (bytesNamed m d w 0) (λ x. some (onDate (date y (x .first) (x .second) (x .third)))))
 
 unfoldable pub timeNamed : (hour minute second hundredths : ℕ) → Option Value
-timeNamed h m s c = ifAtMost 255 h (ifAtMost 255 m (ifAtMost 255 s (ifAtMost 255 c (some (atTime (time h m s c))))))
+timeNamed h m s c = ofBytes (bytesNamed h m s c) (λ x. some (atTime (time (x .first) (x .second) (x .third) (x .fourth))))
 
 unfoldable pub objectIdNamed : (type instance : ℕ) → Option Value
 objectIdNamed k i = ifAtMost 65535 k (ifAtMost 4294967295 i (some (objectId k i)))

@@ -1,52 +1,28 @@
 // Answers as eight numbers: refusals with what they carry, and what a writer answers.
 ghost use mathlib.Core.Path.{_≡_};
-ghost use Rattle.types.specs.Tag.{numberOf};
 ghost use Rattle.types.specs.Refusal.{table};
 ghost use Rattle.types.specs.Writing.{paperWritten, unwritable, writeAnswer};
-ghost use Rattle.thaolisem.specs.Told.{classOf, numberIn, toldRefusal, toldWrite};
+ghost use Rattle.thaolisem.specs.Told.{toldRefusal, toldWrite};
 use types::Carried;
 use types::Refusal;
-use types::TagNumber;
 use types::Written;
 
-// The number of a tag's class.
-pub(crate) fn class_of(number: TagNumber) -> u64
-    ensures { λ r. ⌜ r ≡ classOf (numberOf number) ⌝ }
-{
-    match number {
-        TagNumber::Application(_) => 1,
-        TagNumber::ContextSpecific(_) => 2,
-        TagNumber::ContextSpecificOpening(_) => 3,
-        TagNumber::ContextSpecificClosing(_) => 4,
-    }
-}
-
-// The number that stands in a tag, whatever its class.
-pub(crate) fn number_in(number: TagNumber) -> u64
-    ensures { λ r. ⌜ r ≡ numberIn (numberOf number) ⌝ }
-{
-    match number {
-        TagNumber::Application(name) => name.number() as u64,
-        TagNumber::ContextSpecific(n) => n as u64,
-        TagNumber::ContextSpecificOpening(n) => n as u64,
-        TagNumber::ContextSpecificClosing(n) => n as u64,
-    }
-}
-
-// A refusal, with the count of tags where there is one.
+// The eight numbers of a refusal: its number, what it carries, and how many tags were read, 0 where they are not counted.
 pub(crate) fn refused(refusal: Refusal, tags: usize) -> [u64; 8]
     ensures { λ r. ⌜ r ≡ toldRefusal (table refusal .number) (table refusal .carries) tags ⌝ }
 {
-    let n = refusal.number() as u64;
-    match refusal.carried() {
+    let row = refusal.row();
+    let n = row.number as u64;
+    let carried = row.carried;
+    match carried {
         Carried::Amount(amount) => [n, 0, 0, amount as u64, 0, tags as u64, 0, 0],
         Carried::TagFound(tag) => {
             let number = tag.number;
             [
                 n,
                 0,
-                class_of(number),
-                number_in(number),
+                number.class() as u64,
+                number.number() as u64,
                 tag.value as u64,
                 tags as u64,
                 0,
@@ -56,7 +32,7 @@ pub(crate) fn refused(refusal: Refusal, tags: usize) -> [u64; 8]
     }
 }
 
-// What a writer answers.
+// The eight numbers of what a writer answers: the place after what was written, or a refusal.
 pub(crate) fn written(answer: Written) -> [u64; 8]
     ensures { λ r. ⌜ r ≡ toldWrite (paperWritten answer) ⌝ }
 {
@@ -66,7 +42,7 @@ pub(crate) fn written(answer: Written) -> [u64; 8]
     }
 }
 
-// The refusal of a write whose numbers name nothing that can be written.
+// Refuses a write whose numbers name nothing: 1 or 2 where the buffer, the lent content or the place is at fault, else 12.
 pub(crate) fn nothing_named(lent: usize, buf: &[u8], place: usize) -> Written
     ensures { λ r. ⌜ paperWritten r ≡ writeAnswer lent unwritable 0 (now (buf .entry)) place ⌝ }
 {

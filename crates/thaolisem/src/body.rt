@@ -7,7 +7,7 @@ use crate::answer::refused;
 use bodies::BodyRead;
 use types::Outcome;
 
-// Tells the body whose opening tag is at a place.
+// Tells the body whose opening tag is at a place: where its view lies, its number, and how many tags were read.
 #[no_mangle]
 pub extern "C" fn thaolisem_get_tagged_body(
     allowance: usize,
@@ -20,7 +20,7 @@ pub extern "C" fn thaolisem_get_tagged_body(
     *answer = told(bodies::get_tagged_body(allowance, buf, place));
 }
 
-// Tells the body whose opening tag, of the number expected, is at a place.
+// Tells the same of a body that has to have the number expected.
 #[no_mangle]
 pub extern "C" fn thaolisem_get_tagged_body_for_tag(
     expected: u8,
@@ -34,7 +34,7 @@ pub extern "C" fn thaolisem_get_tagged_body_for_tag(
     *answer = told(bodies::get_tagged_body_for_tag(expected, allowance, buf, place));
 }
 
-// What asking for a body answers.
+// The eight numbers of a body, or of the refusal and how many tags were read before it.
 fn told(answer: BodyRead) -> [u64; 8]
     ensures { λ r. ⌜ r ≡ toldBody (paperBody answer) ⌝ }
 {
@@ -59,7 +59,7 @@ fn told(answer: BodyRead) -> [u64; 8]
     }
 }
 
-// Tells what the strict walk from a place to the buffer's end answers.
+// Tells how many tags the strict walk from a place to the buffer's end accepts, and the refusal where it does not pass.
 #[no_mangle]
 pub extern "C" fn thaolisem_walk(buf: &[u8], place: usize, answer: &mut [u64; 8])
     ensures { λ _. ⌜ now (answer .exit) ≡ toldWalk (reported (walkFrom (now (buf .entry)) place)) ⌝ }

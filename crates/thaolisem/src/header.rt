@@ -13,7 +13,7 @@ use crate::kind::header_named;
 use headers::Header;
 use headers::HeaderRead;
 
-// Tells the header at a place.
+// Tells the header at a place, by its PDU type and its fields, and the place after it.
 #[no_mangle]
 pub extern "C" fn thaolisem_decode_header(buf: &[u8], place: usize, answer: &mut [u64; 8])
     ensures { λ _. ⌜ now (answer .exit) ≡ toldHeader (headerFrom (now (buf .entry)) place) ⌝ }

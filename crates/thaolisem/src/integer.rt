@@ -11,13 +11,13 @@ use numbers::SignedRead;
 use numbers::UnsignedRead;
 use tags::ContextTag;
 
-// What an integer is written under, or that two numbers name nothing.
+// The tag that an integer is written under, or that a class and a number name none.
 enum ContextTagNamed {
     ContextTag(ContextTag),
     Nothing,
 }
 
-// Tells the unsigned integer whose content has this length.
+// Tells the unsigned integer whose content, of that length, begins at a place.
 #[no_mangle]
 pub extern "C" fn thaolisem_decode_unsigned(
     len: u32,
@@ -37,7 +37,7 @@ pub extern "C" fn thaolisem_decode_unsigned(
     }
 }
 
-// Tells the bits of the signed integer whose content has this length.
+// Tells the signed integer whose content, of that length, begins at a place, by its 64 bits.
 #[no_mangle]
 pub extern "C" fn thaolisem_decode_signed(len: u32, buf: &[u8], place: usize, answer: &mut [u64; 8])
     ensures { λ _. ⌜ now (answer .exit) ≡ toldSigned (signedFrom len (now (buf .entry)) place) ⌝ }
@@ -52,7 +52,7 @@ pub extern "C" fn thaolisem_decode_signed(len: u32, buf: &[u8], place: usize, an
     }
 }
 
-// What a class and a number name for an integer: 1 the application tag of its kind, 2 a context tag.
+// The tag that a class and a number name for an integer: 1 the application tag of its kind, 2 a context tag of that number.
 fn context_tag_named(class: u8, number: u8) -> ContextTagNamed
     ensures { λ r. ⌜ NamesUnder r class number ⌝ }
 {

@@ -1,9 +1,11 @@
 // The headers that a PDU type and its fields name.
 ghost use mathlib.Core.Path.{_≡_};
 ghost use Rattle.thaolisem.specs.Header.{paperHeaderNamed, requestNamed, acknowledgementNamed, segmentNamed, headerNamed};
+use crate::bytes::BytesNamed;
+use crate::bytes::bytes_named;
 use headers::Header;
 
-// A header, or that numbers name none.
+// A header, or that a PDU type and its fields name none.
 pub(crate) enum HeaderNamed {
     Header(Header),
     Nothing,
@@ -24,46 +26,36 @@ pub(crate) fn header_named(kind: u8, a: u64, b: u64, c: u64, d: u64) -> HeaderNa
 fn request_named(segments: u64, size: u64, id: u64, choice: u64) -> HeaderNamed
     ensures { λ r. ⌜ paperHeaderNamed r ≡ requestNamed segments size id choice ⌝ }
 {
-    if 255 < segments {
-        return HeaderNamed::Nothing;
+    match bytes_named(segments, size, id, choice) {
+        BytesNamed::Bytes(max_segments, max_adpu, invoke_id, service_choice) => {
+            HeaderNamed::Header(Header::ConfirmedRequest {
+                max_segments,
+                max_adpu,
+                invoke_id,
+                service_choice,
+            })
+        }
+        BytesNamed::Nothing => HeaderNamed::Nothing,
     }
-    if 255 < size {
-        return HeaderNamed::Nothing;
-    }
-    if 255 < id {
-        return HeaderNamed::Nothing;
-    }
-    if 255 < choice {
-        return HeaderNamed::Nothing;
-    }
-    HeaderNamed::Header(Header::ConfirmedRequest {
-        max_segments: segments as u8,
-        max_adpu: size as u8,
-        invoke_id: id as u8,
-        service_choice: choice as u8,
-    })
 }
 
 // The simple or complex acknowledgement of an invoke id and a service choice.
-fn acknowledgement_named(kind: u8, id: u64, service: u64) -> HeaderNamed
-    ensures { λ r. ⌜ paperHeaderNamed r ≡ acknowledgementNamed kind id service ⌝ }
+fn acknowledgement_named(kind: u8, id: u64, choice: u64) -> HeaderNamed
+    ensures { λ r. ⌜ paperHeaderNamed r ≡ acknowledgementNamed kind id choice ⌝ }
 {
-    if 255 < id {
-        return HeaderNamed::Nothing;
-    }
-    if 255 < service {
-        return HeaderNamed::Nothing;
-    }
-    match kind {
-        2 => HeaderNamed::Header(Header::SimpleAck {
-            invoke_id: id as u8,
-            service_choice: service as u8,
-        }),
-        3 => HeaderNamed::Header(Header::ComplexAck {
-            invoke_id: id as u8,
-            service_choice: service as u8,
-        }),
-        _ => HeaderNamed::Nothing,
+    match bytes_named(id, choice, 0, 0) {
+        BytesNamed::Bytes(invoke_id, service_choice, _, _) => match kind {
+            2 => HeaderNamed::Header(Header::SimpleAck {
+                invoke_id,
+                service_choice,
+            }),
+            3 => HeaderNamed::Header(Header::ComplexAck {
+                invoke_id,
+                service_choice,
+            }),
+            _ => HeaderNamed::Nothing,
+        },
+        BytesNamed::Nothing => HeaderNamed::Nothing,
     }
 }
 
@@ -71,18 +63,14 @@ fn acknowledgement_named(kind: u8, id: u64, service: u64) -> HeaderNamed
 fn segment_named(id: u64, sequence: u64, window: u64) -> HeaderNamed
     ensures { λ r. ⌜ paperHeaderNamed r ≡ segmentNamed id sequence window ⌝ }
 {
-    if 255 < id {
-        return HeaderNamed::Nothing;
+    match bytes_named(id, sequence, window, 0) {
+        BytesNamed::Bytes(invoke_id, sequence_num, proposed_window_size, _) => {
+            HeaderNamed::Header(Header::SegmentAck {
+                invoke_id,
+                sequence_num,
+                proposed_window_size,
+            })
+        }
+        BytesNamed::Nothing => HeaderNamed::Nothing,
     }
-    if 255 < sequence {
-        return HeaderNamed::Nothing;
-    }
-    if 255 < window {
-        return HeaderNamed::Nothing;
-    }
-    HeaderNamed::Header(Header::SegmentAck {
-        invoke_id: id as u8,
-        sequence_num: sequence as u8,
-        proposed_window_size: window as u8,
-    })
 }

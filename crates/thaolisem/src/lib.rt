@@ -1,6 +1,7 @@
 // The calls that a program in C or Rust makes: numbers and byte slices in, eight numbers out; and the version of these calls.
 mod answer;
 mod body;
+mod bytes;
 mod header;
 mod integer;
 mod kind;

@@ -3,9 +3,7 @@ ghost use mathlib.Core.Path.{_≡_};
 ghost use Rattle.tags.specs.Reading.{tagFrom};
 ghost use Rattle.thaolisem.specs.Told.{toldTag, toldWrite};
 ghost use Rattle.thaolisem.specs.Named.{paperNumberNamed, applicationNamed, numberNamed, tagNamedTo};
-use crate::answer::class_of;
 use crate::answer::nothing_named;
-use crate::answer::number_in;
 use crate::answer::refused;
 use crate::answer::written;
 use tags::TagRead;
@@ -13,13 +11,13 @@ use types::ApplicationTagNumber;
 use types::Tag;
 use types::TagNumber;
 
-// A tag's class and number, or that two numbers name none.
+// A tag's class and number, or that two numbers name no tag.
 enum NumberNamed {
     Number(TagNumber),
     Nothing,
 }
 
-// Tells the tag at a place.
+// Tells the tag at a place, by its class, number and value, and the place after it.
 #[no_mangle]
 pub extern "C" fn thaolisem_decode_tag(buf: &[u8], place: usize, answer: &mut [u64; 8])
     ensures { λ _. ⌜ now (answer .exit) ≡ toldTag (tagFrom (now (buf .entry)) place) ⌝ }
@@ -30,8 +28,8 @@ pub extern "C" fn thaolisem_decode_tag(buf: &[u8], place: usize, answer: &mut [u
             *answer = [
                 0,
                 next as u64,
-                class_of(number),
-                number_in(number),
+                number.class() as u64,
+                number.number() as u64,
                 tag.value as u64,
                 0,
                 0,
@@ -74,7 +72,7 @@ pub extern "C" fn thaolisem_encode_tag(
     }
 }
 
-// The class and number that two numbers name.
+// The tag number of a class, 1 application, 2 context, 3 opening or 4 closing, and a number.
 fn number_named(class: u8, number: u8) -> NumberNamed
     ensures { λ r. ⌜ paperNumberNamed r ≡ numberNamed class number ⌝ }
 {
@@ -87,27 +85,12 @@ fn number_named(class: u8, number: u8) -> NumberNamed
     }
 }
 
-// The application tag of a number; none above 15.
+// The application tag number of a number up to 15.
 fn application_named(number: u8) -> NumberNamed
     ensures { λ r. ⌜ paperNumberNamed r ≡ applicationNamed number ⌝ }
 {
-    match number {
-        0 => NumberNamed::Number(TagNumber::Application(ApplicationTagNumber::Null)),
-        1 => NumberNamed::Number(TagNumber::Application(ApplicationTagNumber::Boolean)),
-        2 => NumberNamed::Number(TagNumber::Application(ApplicationTagNumber::UnsignedInt)),
-        3 => NumberNamed::Number(TagNumber::Application(ApplicationTagNumber::SignedInt)),
-        4 => NumberNamed::Number(TagNumber::Application(ApplicationTagNumber::Real)),
-        5 => NumberNamed::Number(TagNumber::Application(ApplicationTagNumber::Double)),
-        6 => NumberNamed::Number(TagNumber::Application(ApplicationTagNumber::OctetString)),
-        7 => NumberNamed::Number(TagNumber::Application(ApplicationTagNumber::CharacterString)),
-        8 => NumberNamed::Number(TagNumber::Application(ApplicationTagNumber::BitString)),
-        9 => NumberNamed::Number(TagNumber::Application(ApplicationTagNumber::Enumerated)),
-        10 => NumberNamed::Number(TagNumber::Application(ApplicationTagNumber::Date)),
-        11 => NumberNamed::Number(TagNumber::Application(ApplicationTagNumber::Time)),
-        12 => NumberNamed::Number(TagNumber::Application(ApplicationTagNumber::ObjectId)),
-        13 => NumberNamed::Number(TagNumber::Application(ApplicationTagNumber::Reserve1)),
-        14 => NumberNamed::Number(TagNumber::Application(ApplicationTagNumber::Reserve2)),
-        15 => NumberNamed::Number(TagNumber::Application(ApplicationTagNumber::Reserve3)),
-        _ => NumberNamed::Nothing,
+    if 15 < number {
+        return NumberNamed::Nothing;
     }
+    NumberNamed::Number(TagNumber::Application(ApplicationTagNumber::named(number)))
 }

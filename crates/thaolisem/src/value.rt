@@ -13,7 +13,7 @@ use crate::named::value_named;
 use values::ApplicationDataValue;
 use values::ValueRead;
 
-// Tells the value at a place.
+// Tells the value at a place, by its case and its fields, and the place after it.
 #[no_mangle]
 pub extern "C" fn thaolisem_decode_value(buf: &[u8], place: usize, answer: &mut [u64; 8])
     ensures { λ _. ⌜ now (answer .exit) ≡ toldValue (valueFrom (now (buf .entry)) place) ⌝ }
@@ -28,7 +28,7 @@ pub extern "C" fn thaolisem_decode_value(buf: &[u8], place: usize, answer: &mut 
     }
 }
 
-// A value by its case and its fields, with the place after it.
+// The eight numbers of a value, by its case and its fields, and of the place after it.
 fn told(value: ApplicationDataValue, next: usize) -> [u64; 8]
     ensures { λ r. ⌜ r ≡ valueTold (valueOf value) next ⌝ }
 {
@@ -66,14 +66,14 @@ fn told(value: ApplicationDataValue, next: usize) -> [u64; 8]
     }
 }
 
-// A case, four fields and the place after them.
+// The eight numbers of a case, four fields and the place after them.
 fn fields(case: u64, a: u64, b: u64, c: u64, d: u64, next: usize) -> [u64; 8]
     ensures { λ r. ⌜ r ≡ 0 ∷ next ∷ case ∷ a ∷ b ∷ c ∷ d ∷ 0 ∷ [] ⌝ }
 {
     [0, next as u64, case, a, b, c, d, 0]
 }
 
-// A case, two fields and the place after them.
+// The eight numbers of a case, two fields and the place after them.
 fn two(case: u64, a: usize, b: u32, next: usize) -> [u64; 8]
     ensures { λ r. ⌜ r ≡ 0 ∷ next ∷ case ∷ a ∷ b ∷ 0 ∷ 0 ∷ 0 ∷ [] ⌝ }
 {

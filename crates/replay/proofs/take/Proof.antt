@@ -9,10 +9,10 @@ use Rattle.replay.proofs.take.Statement.{statement}
 use Rattle.replay.proofs.take.Tie as tie
 
 abbrev Inv-loop : tie.InvT-loop
-Inv-loop piece line₀ before content₀ buf₀ text₀ len₀ at₀ line content buf text len at = (len ≤ length line) × (length line ≡ length line₀) × (length content ≡ length content₀) × (length buf ≡ length buf₀) × (length text ≡ length text₀)
+Inv-loop piece line₀ before content₀ buf₀ text₀ len₀ place₀ line content buf text len place = (len ≤ length line) × (length line ≡ length line₀) × (length content ≡ length content₀) × (length buf ≡ length buf₀) × (length text ≡ length text₀)
 
 abbrev μ-loop : tie.MeasureT-loop
-μ-loop piece line₀ before content₀ buf₀ text₀ len₀ at₀ line content buf text len at = length piece - at
+μ-loop piece line₀ before content₀ buf₀ text₀ len₀ place₀ line content buf text len place = length piece - place
 
 loop-holds : tie.Need-loop-holds Inv-loop μ-loop
 loop-holds c = search needs
@@ -20,8 +20,8 @@ loop-holds c = search needs
 shared-slice-read-byte : tie.Need-shared-slice-read-byte Inv-loop μ-loop
 shared-slice-read-byte c = search needs
 
-add-at : tie.Need-add-at Inv-loop μ-loop
-add-at c = search needs
+add-place : tie.Need-add-place Inv-loop μ-loop
+add-place c = search needs
 
 sub-answer-line : tie.Need-sub-answer-line Inv-loop μ-loop
 sub-answer-line c = search needs
@@ -82,7 +82,7 @@ take-spec =
     μ-loop
     loop-holds
     shared-slice-read-byte
-    add-at
+    add-place
     sub-answer-line
     part-answer-line-start
     part-answer-line-end

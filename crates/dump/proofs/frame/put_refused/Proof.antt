@@ -3,6 +3,8 @@
 use Rattle.dump.proofs.Words.{word, number, last}
 use Rattle.dump.specs.Frame.{refusedLine}
 use native.Mathlib.Omega.{arith}
+use mathlib.Core.Path.{ap}
+use Rattle.types.specs.Refusal.{Row}
 use mathlib.Core.List.{[], _∷_}
 use borrow.Author.Needs.{needs}
 use Rattle.dump.proofs.frame.put_refused.Statement.{statement}
@@ -17,8 +19,8 @@ slice-aggregate-put-word c = search needs
 put-word-requires : tie.Need-put-word-requires
 put-word-requires c κs = search needs
 
-number-requires : tie.Need-number-requires
-number-requires c κs = search needs
+row-requires : tie.Need-row-requires
+row-requires c κs = search needs
 
 cast-put-number : tie.Need-cast-put-number
 cast-put-number c = search needs
@@ -31,7 +33,7 @@ same-length c = search needs
 
 returns : tie.Need-returns
 unfolding refusedLine
-returns c = (rw (← c .before .before .before .number .ensures) (number _ (c .before .before .before .before .before .before .before .before .before .before .before .before .put-number .ensures .0) (word (114 ∷ 101 ∷ 102 ∷ 117 ∷ 115 ∷ 101 ∷ 100 ∷ []) (c .before .before .before .before .before .before .before .put-word .ensures .0) (last _ (c .before .before .put-number2 .ensures .0))) .text), omega arith)
+returns c = (rw (← ap (λ (x : Row). x .number) (c .before .before .before .before .row .ensures)) (number _ (c .before .before .before .before .before .before .before .before .before .before .before .before .before .put-number .ensures .0) (word (114 ∷ 101 ∷ 102 ∷ 117 ∷ 115 ∷ 101 ∷ 100 ∷ []) (c .before .before .before .before .before .before .before .before .put-word .ensures .0) (last _ (c .before .before .put-number2 .ensures .0))) .text), omega arith)
 
 pub put-refused-spec : {M : Type 1} → statement M
 put-refused-spec =
@@ -40,7 +42,7 @@ put-refused-spec =
     put-number-requires
     slice-aggregate-put-word
     put-word-requires
-    number-requires
+    row-requires
     cast-put-number
     put-number-requires-2
     same-length

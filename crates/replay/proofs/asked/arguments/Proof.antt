@@ -8,12 +8,12 @@ use Rattle.replay.proofs.asked.arguments.Statement.{statement}
 use Rattle.replay.proofs.asked.arguments.Tie as tie
 
 abbrev Inv-loop : tie.InvT-loop
-Inv-loop table kinds line content₀ buf₀ numbers₀ given₀ read₀ lent₀ end₀ at₀ content buf numbers given read lent end at =
-    (given ≤ at) × (read ≤ length content) × (lent ≤ length buf) × (length content ≡ length content₀) × (length buf ≡ length buf₀)
+Inv-loop table kinds line content₀ buf₀ numbers₀ given₀ read₀ lent₀ end₀ place₀ content buf numbers given read lent end place =
+    (given ≤ place) × (read ≤ length content) × (lent ≤ length buf) × (length content ≡ length content₀) × (length buf ≡ length buf₀)
 
 abbrev μ-loop : tie.MeasureT-loop
-μ-loop table kinds line content₀ buf₀ numbers₀ given₀ read₀ lent₀ end₀ at₀ content buf numbers given read lent end at =
-    length table - at
+μ-loop table kinds line content₀ buf₀ numbers₀ given₀ read₀ lent₀ end₀ place₀ content buf numbers given read lent end place =
+    length table - place
 
 word-end-requires : tie.Need-word-end-requires Inv-loop μ-loop
 word-end-requires c κs = search needs
@@ -24,8 +24,8 @@ loop-holds c = search needs
 shared-slice-read-kind : tie.Need-shared-slice-read-kind Inv-loop μ-loop
 shared-slice-read-kind c = search needs
 
-add-at : tie.Need-add-at Inv-loop μ-loop
-add-at c = search needs
+add-place : tie.Need-add-place Inv-loop μ-loop
+add-place c = search needs
 
 bytes-requires : tie.Need-bytes-requires Inv-loop μ-loop
 bytes-requires c κs = search needs
@@ -90,7 +90,7 @@ arguments-spec =
     word-end-requires
     loop-holds
     shared-slice-read-kind
-    add-at
+    add-place
     bytes-requires
     loop-less
     loop-again

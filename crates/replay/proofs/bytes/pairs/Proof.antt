@@ -9,10 +9,10 @@ use Rattle.replay.proofs.bytes.pairs.Statement.{statement}
 use Rattle.replay.proofs.bytes.pairs.Tie as tie
 
 abbrev Inv-loop : tie.InvT-loop
-Inv-loop line start buf₀ count₀ at₀ buf count at = (count ≤ length buf) × (length buf ≡ length buf₀)
+Inv-loop line start buf₀ count₀ place₀ buf count place = (count ≤ length buf) × (length buf ≡ length buf₀)
 
 abbrev μ-loop : tie.MeasureT-loop
-μ-loop line start buf₀ count₀ at₀ buf count at = length line - at
+μ-loop line start buf₀ count₀ place₀ buf count place = length line - place
 
 loop-holds : tie.Need-loop-holds Inv-loop μ-loop
 loop-holds c = search needs
@@ -80,8 +80,8 @@ slice-write-buf c = search needs
 add-count : tie.Need-add-count Inv-loop μ-loop
 add-count c = search needs
 
-add-at : tie.Need-add-at Inv-loop μ-loop
-add-at c = search needs
+add-place : tie.Need-add-place Inv-loop μ-loop
+add-place c = search needs
 
 loop-less : tie.Need-loop-less Inv-loop μ-loop
 loop-less c = search needs
@@ -132,7 +132,7 @@ pairs-spec =
     cast-buf
     slice-write-buf
     add-count
-    add-at
+    add-place
     loop-less
     loop-again
     nothing-requires-4

@@ -7,10 +7,10 @@ use Rattle.replay.proofs.number.digits.Statement.{statement}
 use Rattle.replay.proofs.number.digits.Tie as tie
 
 abbrev Inv-loop : tie.InvT-loop
-Inv-loop most line start value₀ at₀ value at = Unit {0}
+Inv-loop most line start value₀ place₀ value place = Unit {0}
 
 abbrev μ-loop : tie.MeasureT-loop
-μ-loop most line start value₀ at₀ value at = length line - at
+μ-loop most line start value₀ place₀ value place = length line - place
 
 loop-holds : tie.Need-loop-holds Inv-loop μ-loop
 loop-holds c = search needs
@@ -48,8 +48,8 @@ mul-value c = search needs
 add-value : tie.Need-add-value Inv-loop μ-loop
 add-value c = search needs
 
-add-at : tie.Need-add-at Inv-loop μ-loop
-add-at c = search needs
+add-place : tie.Need-add-place Inv-loop μ-loop
+add-place c = search needs
 
 loop-less : tie.Need-loop-less Inv-loop μ-loop
 loop-less c = search needs
@@ -84,7 +84,7 @@ digits-spec =
     returns-3
     mul-value
     add-value
-    add-at
+    add-place
     loop-less
     loop-again
     nothing-requires-4

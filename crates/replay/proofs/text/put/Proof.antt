@@ -9,10 +9,10 @@ use Rattle.replay.proofs.text.put.Statement.{statement}
 use Rattle.replay.proofs.text.put.Tie as tie
 
 abbrev Inv-loop : tie.InvT-loop
-Inv-loop bytes text₀ at done₀ text done = (done ≤ length bytes) × (at + length bytes ≤ length text) × (length text ≡ length text₀)
+Inv-loop bytes text₀ place done₀ text done = (done ≤ length bytes) × (place + length bytes ≤ length text) × (length text ≡ length text₀)
 
 abbrev μ-loop : tie.MeasureT-loop
-μ-loop bytes text₀ at done₀ text done = length bytes - done
+μ-loop bytes text₀ place done₀ text done = length bytes - done
 
 returns : tie.Need-returns Inv-loop μ-loop
 returns c = search needs

@@ -9,10 +9,10 @@ use Rattle.replay.proofs.text.put_bytes.Statement.{statement}
 use Rattle.replay.proofs.text.put_bytes.Tie as tie
 
 abbrev Inv-loop : tie.InvT-loop
-Inv-loop bytes text₀ at digits₀ end₀ done₀ text digits end done = length text ≡ length text₀
+Inv-loop bytes text₀ place digits₀ end₀ done₀ text digits end done = length text ≡ length text₀
 
 abbrev μ-loop : tie.MeasureT-loop
-μ-loop bytes text₀ at digits₀ end₀ done₀ text digits end done = length bytes - done
+μ-loop bytes text₀ place digits₀ end₀ done₀ text digits end done = length bytes - done
 
 slice-aggregate-put : tie.Need-slice-aggregate-put Inv-loop μ-loop
 slice-aggregate-put c = search needs

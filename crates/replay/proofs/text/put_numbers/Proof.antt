@@ -8,10 +8,10 @@ use Rattle.replay.proofs.text.put_numbers.Statement.{statement}
 use Rattle.replay.proofs.text.put_numbers.Tie as tie
 
 abbrev Inv-loop : tie.InvT-loop
-Inv-loop text₀ at numbers end₀ done₀ t8 text end done = length text ≡ length text₀
+Inv-loop text₀ place numbers end₀ done₀ t8 text end done = length text ≡ length text₀
 
 abbrev μ-loop : tie.MeasureT-loop
-μ-loop text₀ at numbers end₀ done₀ t8 text end done = 8 - done
+μ-loop text₀ place numbers end₀ done₀ t8 text end done = 8 - done
 
 array-read-put-number : tie.Need-array-read-put-number Inv-loop μ-loop
 array-read-put-number c = search needs

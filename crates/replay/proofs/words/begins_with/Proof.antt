@@ -7,10 +7,10 @@ use Rattle.replay.proofs.words.begins_with.Statement.{statement}
 use Rattle.replay.proofs.words.begins_with.Tie as tie
 
 abbrev Inv-loop : tie.InvT-loop
-Inv-loop table from line at₀ end₀ at end = Unit {0}
+Inv-loop table start line place₀ end₀ place end = Unit {0}
 
 abbrev μ-loop : tie.MeasureT-loop
-μ-loop table from line at₀ end₀ at end = length table - at
+μ-loop table start line place₀ end₀ place end = length table - place
 
 loop-holds : tie.Need-loop-holds Inv-loop μ-loop
 loop-holds c = search needs
@@ -24,8 +24,8 @@ shared-slice-read-behind c = search needs
 behind-requires : tie.Need-behind-requires Inv-loop μ-loop
 behind-requires c κs = search needs
 
-add-at : tie.Need-add-at Inv-loop μ-loop
-add-at c = search needs
+add-place : tie.Need-add-place Inv-loop μ-loop
+add-place c = search needs
 
 loop-less : tie.Need-loop-less Inv-loop μ-loop
 loop-less c = search needs
@@ -49,7 +49,7 @@ begins-with-spec =
     shared-slice-read-if1
     shared-slice-read-behind
     behind-requires
-    add-at
+    add-place
     loop-less
     loop-again
     word-end-requires

@@ -7,10 +7,10 @@ use Rattle.replay.proofs.words.named_by.Statement.{statement}
 use Rattle.replay.proofs.words.named_by.Tie as tie
 
 abbrev Inv-loop : tie.InvT-loop
-Inv-loop table line from₀ function₀ from function = function ≤ from
+Inv-loop table line place₀ function₀ place function = function ≤ place
 
 abbrev μ-loop : tie.MeasureT-loop
-μ-loop table line from₀ function₀ from function = length table - from
+μ-loop table line place₀ function₀ place function = length table - place
 
 loop-holds : tie.Need-loop-holds Inv-loop μ-loop
 loop-holds c = search needs

@@ -7,10 +7,10 @@ use Rattle.replay.proofs.words.word_end.Statement.{statement}
 use Rattle.replay.proofs.words.word_end.Tie as tie
 
 abbrev Inv-loop : tie.InvT-loop
-Inv-loop line start at₀ at = start ≤ at
+Inv-loop line start place₀ place = start ≤ place
 
 abbrev μ-loop : tie.MeasureT-loop
-μ-loop line start at₀ at = length line - at
+μ-loop line start place₀ place = length line - place
 
 loop-holds : tie.Need-loop-holds Inv-loop μ-loop
 loop-holds c = search needs
@@ -21,8 +21,8 @@ shared-slice-read-if1 c = search needs
 returns : tie.Need-returns Inv-loop μ-loop
 returns c = search needs
 
-add-at : tie.Need-add-at Inv-loop μ-loop
-add-at c = search needs
+add-place : tie.Need-add-place Inv-loop μ-loop
+add-place c = search needs
 
 loop-less : tie.Need-loop-less Inv-loop μ-loop
 loop-less c = search needs
@@ -42,7 +42,7 @@ word-end-spec =
     loop-holds
     shared-slice-read-if1
     returns
-    add-at
+    add-place
     loop-less
     loop-again
     returns-2)

@@ -1,44 +1,29 @@
--- `thaolisem::request_named` meets its contract: at each return the tests that led there say which case of `requestNamed` holds.
+-- `thaolisem::request_named` meets its contract: in each arm it is known whether the numbers are bytes.
 -- Assumes nothing.
 use borrow.Author.Needs.{needs}
-use borrow.Author.Tests.{lt-ltb, le-ltb}
+use mathlib.Core.Path.{sym, ap, _∙_}
+use Rattle.thaolisem.specs.Named.{paperBytes}
 use Rattle.thaolisem.specs.Header.{requestNamed}
 use Rattle.thaolisem.proofs.kind.request_named.Statement.{statement}
 use Rattle.thaolisem.proofs.kind.request_named.Tie as tie
 
+bytes-named-requires : tie.Need-bytes-named-requires
+bytes-named-requires c κs = search needs
+
+enum-known-max-segments : tie.Need-enum-known-max-segments
+enum-known-max-segments c = search needs
+
+enum-told : tie.Need-enum-told
+enum-told c = search needs
+
 returns : tie.Need-returns
 unfolding requestNamed
-returns c = simp (lt-ltb _ _ (c .if1 .taken))
+returns c = simp (sym (c .before .before .before .bytes-named .ensures) ∙ ap paperBytes (c .before .max-segments .given .1))
 
 returns-2 : tie.Need-returns-2
 unfolding requestNamed
-returns-2 c = simp (le-ltb _ _ (c .before .if1 .left), lt-ltb _ _ (c .if2 .taken))
-
-returns-3 : tie.Need-returns-3
-unfolding requestNamed
-returns-3 c = simp (le-ltb _ _ (c .before .before .if1 .left), le-ltb _ _ (c .before .if2 .left), lt-ltb _ _ (c .if3 .taken))
-
-returns-4 : tie.Need-returns-4
-unfolding requestNamed
-returns-4 c = simp (le-ltb _ _ (c .before .before .before .if1 .left), le-ltb _ _ (c .before .before .if2 .left), le-ltb _ _ (c .before .if3 .left), lt-ltb _ _ (c .if4 .taken))
-
-cast-t6 : tie.Need-cast-t6
-cast-t6 c = search needs
-
-cast-t7 : tie.Need-cast-t7
-cast-t7 c = search needs
-
-cast-t8 : tie.Need-cast-t8
-cast-t8 c = search needs
-
-cast-t9 : tie.Need-cast-t9
-cast-t9 c = search needs
-
-returns-5 : tie.Need-returns-5
-unfolding requestNamed
-returns-5 c = simp (le-ltb _ _ (c .before .before .before .if1 .left), le-ltb _ _ (c .before .before .if2 .left), le-ltb _ _ (c .before .if3 .left), le-ltb _ _ (c .if4 .left))
+returns-2 c = simp (sym (c .before .before .bytes-named .ensures) ∙ ap paperBytes (c .enum-told .given .1))
 
 pub request-named-spec : {M : Type 1} → statement M
 request-named-spec =
-    tie.close
-    (tie.spec returns returns-2 returns-3 returns-4 cast-t6 cast-t7 cast-t8 cast-t9 returns-5)
+    tie.close (tie.spec bytes-named-requires enum-known-max-segments enum-told returns returns-2)

@@ -1,37 +1,29 @@
--- `thaolisem::segment_named` meets its contract: at each return the tests that led there say which case of `segmentNamed` holds.
+-- `thaolisem::segment_named` meets its contract: in each arm it is known whether the numbers are bytes.
 -- Assumes nothing.
 use borrow.Author.Needs.{needs}
-use borrow.Author.Tests.{lt-ltb, le-ltb}
+use mathlib.Core.Path.{sym, ap, _∙_}
+use Rattle.thaolisem.specs.Named.{paperBytes}
 use Rattle.thaolisem.specs.Header.{segmentNamed}
 use Rattle.thaolisem.proofs.kind.segment_named.Statement.{statement}
 use Rattle.thaolisem.proofs.kind.segment_named.Tie as tie
 
+bytes-named-requires : tie.Need-bytes-named-requires
+bytes-named-requires c κs = search needs
+
+enum-known-invoke-id : tie.Need-enum-known-invoke-id
+enum-known-invoke-id c = search needs
+
+enum-told : tie.Need-enum-told
+enum-told c = search needs
+
 returns : tie.Need-returns
 unfolding segmentNamed
-returns c = simp (lt-ltb _ _ (c .if1 .taken))
+returns c = simp (sym (c .before .before .before .bytes-named .ensures) ∙ ap paperBytes (c .before .invoke-id .given .1))
 
 returns-2 : tie.Need-returns-2
 unfolding segmentNamed
-returns-2 c = simp (le-ltb _ _ (c .before .if1 .left), lt-ltb _ _ (c .if2 .taken))
-
-returns-3 : tie.Need-returns-3
-unfolding segmentNamed
-returns-3 c = simp (le-ltb _ _ (c .before .before .if1 .left), le-ltb _ _ (c .before .if2 .left), lt-ltb _ _ (c .if3 .taken))
-
-cast-t5 : tie.Need-cast-t5
-cast-t5 c = search needs
-
-cast-t6 : tie.Need-cast-t6
-cast-t6 c = search needs
-
-cast-t7 : tie.Need-cast-t7
-cast-t7 c = search needs
-
-returns-4 : tie.Need-returns-4
-unfolding segmentNamed
-returns-4 c = simp (le-ltb _ _ (c .before .before .if1 .left), le-ltb _ _ (c .before .if2 .left), le-ltb _ _ (c .if3 .left))
+returns-2 c = simp (sym (c .before .before .bytes-named .ensures) ∙ ap paperBytes (c .enum-told .given .1))
 
 pub segment-named-spec : {M : Type 1} → statement M
 segment-named-spec =
-    tie.close
-    (tie.spec returns returns-2 returns-3 cast-t5 cast-t6 cast-t7 returns-4)
+    tie.close (tie.spec bytes-named-requires enum-known-invoke-id enum-told returns returns-2)

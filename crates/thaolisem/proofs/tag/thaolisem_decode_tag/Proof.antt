@@ -12,14 +12,20 @@ decode-requires c κs = search needs
 enum-known-tag : tie.Need-enum-known-tag
 enum-known-tag c = search needs
 
-class-of-requires : tie.Need-class-of-requires
-class-of-requires c κs = search needs
+class-requires : tie.Need-class-requires
+class-requires c κs = search needs
 
-number-in-requires : tie.Need-number-in-requires
-number-in-requires c κs = search needs
+cast-t11 : tie.Need-cast-t11
+cast-t11 c = search needs
 
-cast-t12 : tie.Need-cast-t12
-cast-t12 c = search needs
+number-requires : tie.Need-number-requires
+number-requires c κs = search needs
+
+cast-t13 : tie.Need-cast-t13
+cast-t13 c = search needs
+
+cast-t14 : tie.Need-cast-t14
+cast-t14 c = search needs
 
 enum-known-r : tie.Need-enum-known-r
 enum-known-r c = search needs
@@ -28,7 +34,7 @@ refused-requires : tie.Need-refused-requires
 refused-requires c κs = search needs
 
 returns : tie.Need-returns
-returns c = simp (c .before .before .number-in .ensures, c .before .before .before .class-of .ensures, sym (c .before .before .before .before .before .before .before .decode .ensures) ∙ ap paperTag (c .before .before .before .before .before .tag .given .1))
+returns c = simp (c .before .before .number .ensures, c .before .before .before .class .ensures, sym (c .before .before .before .before .before .before .before .decode .ensures) ∙ ap paperTag (c .before .before .before .before .before .tag .given .1))
 
 returns-2 : tie.Need-returns-2
 returns-2 c = simp (c .refused .ensures, sym (c .before .before .before .before .decode .ensures) ∙ ap paperTag (c .before .before .r .given .1))
@@ -39,9 +45,11 @@ thaolisem-decode-tag-spec =
     (tie.spec
     decode-requires
     enum-known-tag
-    class-of-requires
-    number-in-requires
-    cast-t12
+    class-requires
+    cast-t11
+    number-requires
+    cast-t13
+    cast-t14
     enum-known-r
     refused-requires
     returns
