@@ -17,7 +17,7 @@ use Rattle.walk.specs.Listing.{listedBy, listed}
 use Rattle.walk.proofs.Unfolds.{a-byte-a-tag}
 
 -- a step that goes on is what `tag_at` answers by the number of open blocks
-abbrev Sees : List ℕ → ℕ → List ℕ → Step → Type 0
+abbrev pub Sees : List ℕ → ℕ → List ℕ → Step → Type 0
 Sees xs place ns (ends o) = Unit {0}
 Sees xs place ns (goes t next ms) = (tagAt xs place (length ns) ≡ accepted (standing (t .tag) (t .depth) (length ms)) next) × (seen place (t .depth) (t .tag) ≡ t)
 
@@ -43,7 +43,7 @@ module _ (xs : List ℕ) (place : ℕ) where
   sees-of ns (accepted t next) g = sees-by ns (t .number) (t .value) next g
   sees-of ns (refused k c) g = tt
 
-  sees : (ns : List ℕ) → Sees xs place ns (stepFrom xs place ns)
+  pub sees : (ns : List ℕ) → Sees xs place ns (stepFrom xs place ns)
   unfolding stepFrom
   sees ns = either (Sees xs place ns) (ltb place (length xs)) (λ u. sees-of ns (itemFrom xs place) refl) (λ u. tt)
 

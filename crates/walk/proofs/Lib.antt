@@ -3,12 +3,12 @@ pub mod Unfolds
 pub mod Standing
 pub mod Nested
 pub mod Fitting
-pub mod Steps
 pub mod Along
 pub mod Passing
 pub mod Exactly
 pub mod BlockIsBody
 pub mod OneReading
 pub mod Counted
+pub mod Steps
 pub mod Single
 pub mod Examples

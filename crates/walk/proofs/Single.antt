@@ -13,7 +13,7 @@ use Rattle.types.specs.declared.refusal.Refusal.{Refusal}
 use Rattle.types.proofs.Single.{told-apart, programTag, tag-back, programRefusal, refusal-back, single-outcome}
 use Rattle.walk.specs.Tag.{Standing, paperTagAt}
 use Rattle.walk.specs.Walk.{Step, ends, goes, Report, paperWalked}
-use Rattle.walk.specs.Step.{opened, paperStepped}
+use Rattle.walk.specs.Step.{paperStepped}
 use Rattle.walk.specs.declared.tag.TagAt.{TagAt}
 use Rattle.walk.specs.declared.tag.TagAt.the-variants as a
 use Rattle.walk.specs.declared.stepping.Stepped.{Stepped}

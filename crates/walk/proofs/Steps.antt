@@ -5,66 +5,47 @@ use Prim.Native.Nat.{ℕ, suc, _+_, _≤_, _<_}
 use native.Mathlib.Nat.{zero-add}
 use native.Mathlib.Omega.{arith}
 use mathlib.Core.Bool.{Bool, true, false}
-use mathlib.Core.List.{List, [], _∷_}
-use lib.Dec.{ltb, eqb}
+use mathlib.Core.List.{List, []}
+use lib.Dec.{ltb}
 use lib.ListN.{length}
-use borrow.Author.Tests.{ltb-true, ltb-false}
+use borrow.Author.Tests.{ltb-false}
 use Rattle.types.specs.Choice.{if}
-use Rattle.types.specs.Tag.{Number, application, context, opening, closing, Tag, tagOf}
+use Rattle.types.specs.Tag.{tagOf}
 use Rattle.types.specs.Refusal.{amount}
-use Rattle.types.specs.Answer.{Answer, accepted, refused, Outcome, stopped, paperOutcome}
+use Rattle.types.specs.Answer.{Outcome, stopped, paperOutcome}
 use Rattle.types.specs.declared.tag.Tag as program-tag
 use Rattle.types.specs.declared.outcome.Outcome as program-outcome
 use Rattle.types.proofs.Choices.{either}
-use Rattle.walk.specs.Tag.{itemFrom}
-use Rattle.walk.specs.Walk.{Seen, seen, Walk, ended, more, Step, ends, goes, closingStep, stepBy, stepOf, stepFrom, turn, walkOn, walkFrom, Report, report, reported}
+use Rattle.walk.specs.Tag.{standing}
+use Rattle.walk.specs.Walk.{Seen, seen, Walk, ended, more, Step, ends, goes, stepFrom, turn, walkOn, walkFrom, report, reported}
 use Rattle.walk.specs.Nested.{reportAfter}
 use Rattle.walk.specs.Step.{opened, stepAt, paperStepped}
 use Rattle.walk.specs.Steps.{Steps}
 use Rattle.walk.specs.Steps.Steps.{last, one}
 use Rattle.walk.specs.declared.stepping.Stepped.{Stepped}
 use Rattle.walk.specs.declared.stepping.Stepped.the-variants as p
-use Rattle.walk.proofs.Unfolds.{Onward, onward, unfolds}
+use Rattle.walk.proofs.Unfolds.{unfolds}
+use Rattle.walk.proofs.Standing.{tag-at-bounds}
+use Rattle.walk.proofs.Counted.{Sees, sees}
 use Rattle.walk.proofs.Fitting.{opened-length, unguarded-step}
 
--- where at most sixteen blocks are open, no more are open around a tag that is accepted, or after it
-abbrev Few : Step → Type 0
-Few (ends o) = Unit {0}
-Few (goes t next ms) = (t .depth ≤ 16) × (length ms ≤ 16)
-
-closing-few : (place : ℕ) (ns : List ℕ) (n : ℕ) (t : Tag) (next : ℕ) → length ns ≤ 16 → Few (closingStep place ns n t next)
-closing-few place [] n t next h = tt
-closing-few place (m ∷ ns) n t next h = either Few (eqb n m) (λ e. (omega arith, omega arith)) (λ e. tt)
-
-by-few : (place : ℕ) (ns : List ℕ) (k : Number) (t : Tag) (next : ℕ) → length ns ≤ 16 → Few (stepBy place ns k t next)
-by-few place ns (application n) t next h = (h, h)
-by-few place ns (context n) t next h = (h, h)
-by-few place ns (opening n) t next h = either Few (ltb (length ns) 16) (λ e. let w : length ns < 16 = ltb-true (length ns) 16 e in (h, omega arith)) (λ e. tt)
-by-few place ns (closing n) t next h = closing-few place ns n t next h
-
-of-few : (place : ℕ) (ns : List ℕ) (a : Answer Tag) → length ns ≤ 16 → Few (stepOf place ns a)
-of-few place ns (accepted t next) h = by-few place ns (t .number) t next h
-of-few place ns (refused n c) h = tt
-
-few : (xs : List ℕ) (place : ℕ) (ns : List ℕ) → length ns ≤ 16 → Few (stepFrom xs place ns)
-unfolding stepFrom
-few xs place ns h = either Few (ltb place (length xs)) (λ e. of-few place ns (itemFrom xs place) h) (λ e. tt)
-
--- a step that goes on goes ahead, inside a buffer that is not too long
+-- a step that goes on goes ahead, inside a buffer that is not too long; and where at most sixteen blocks are open, no more are open around its tag or after it
 abbrev Inside : List ℕ → ℕ → List ℕ → Step → Type 0
 Inside xs place ns (ends o) = Unit {0}
 Inside xs place ns (goes t next ms) = (length xs ≤ 65535) × (place < next) × (next ≤ length xs) × (length ns ≤ 16 → (t .depth ≤ 16) × (length ms ≤ 16))
 
-is-inside : (xs : List ℕ) (place : ℕ) (ns : List ℕ) (s : Step) → length xs ≤ 65535 → Onward xs place s → (length ns ≤ 16 → Few s) → Inside xs place ns s
-is-inside xs place ns (ends o) small w f = tt
-is-inside xs place ns (goes t next ms) small w f = (small, w .0, w .1, f)
+seen-inside : (xs : List ℕ) (place : ℕ) (ns : List ℕ) (s : Step) → length xs ≤ 65535 → Sees xs place ns s → Inside xs place ns s
+seen-inside xs place ns (ends o) small w = tt
+seen-inside xs place ns (goes t next ms) small w =
+    let b = tag-at-bounds xs place (length ns) (standing (t .tag) (t .depth) (length ms)) next (w .0) in
+    (small, b .0, b .1, b .2)
 
 inside : (xs : List ℕ) (place : ℕ) (ns : List ℕ) → Inside xs place ns (stepAt xs place ns)
 unfolding stepAt
 inside xs place ns =
     either (Inside xs place ns) (ltb 65535 (length xs)) (λ u. tt) (λ u.
     either (Inside xs place ns) (ltb (length xs) place) (λ v. tt) (λ v.
-    is-inside xs place ns (stepFrom xs place ns) (ltb-false 65535 (length xs) u) (onward xs place ns) (λ h. few xs place ns h)))
+    seen-inside xs place ns (stepFrom xs place ns) (ltb-false 65535 (length xs) u) (sees xs place ns)))
 
 -- what is left of the walk from a place on, where so many blocks are open whose numbers are kept
 unfoldable pub walkLeft : List ℕ → (place blocks : ℕ) → (kept : List ℕ) → Walk

@@ -1,4 +1,4 @@
-// The strict walk over tags and blocks, from a place to the buffer's end.
+// The strict walk over tags and blocks, from a place to the buffer's end: whole, or tag by tag.
 mod stepping;
 mod tag;
 mod walking;

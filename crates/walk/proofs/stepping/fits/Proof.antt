@@ -1,8 +1,7 @@
 -- `walk::fits` meets its contract: in each arm the tag's class is known, and with it what is answered and what is kept; outside the places the number is 0.
 -- Assumes nothing.
-use mathlib.Core.Path.{_≡_, refl, ap, sym, subst, _∙_}
-use Prim.Native.Nat.{ℕ, _≤_}
-use native.Mathlib.Omega.{arith}
+use mathlib.Core.Path.{refl, ap, sym, subst}
+use Prim.Native.Nat.{ℕ}
 use lib.Dec.{eqb}
 use lib.ListN.{length, List·getD-eq-default}
 use borrow.Author.Needs.{needs}
