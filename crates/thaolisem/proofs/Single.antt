@@ -47,10 +47,12 @@ use Rattle.utf8.specs.Answer.{paperCheck}
 use Rattle.utf8.proofs.Single.{single-checked}
 use Rattle.utf8.specs.declared.Checked.{Checked}
 use Rattle.utf8.specs.declared.Checked.the-variants as k
-use Rattle.values.specs.Value.{Value, boolean, real, double, onDate, atTime, objectId, characterString, octetString, enumerated, bitString, unsignedInt, signedInt, date, time, valueOf}
+use Rattle.values.specs.Date.{date}
+use Rattle.values.specs.Time.{time}
+use Rattle.values.specs.Value.{Value, boolean, real, double, onDate, atTime, objectId, characterString, octetString, enumerated, bitString, unsignedInt, signedInt, valueOf}
 use Rattle.values.specs.Reading.{paperValue}
-use Rattle.values.specs.declared.reading.ValueRead.{ValueRead}
-use Rattle.values.specs.declared.reading.ValueRead.the-variants as v
+use Rattle.values.specs.declared.value_read.ValueRead.{ValueRead}
+use Rattle.values.specs.declared.value_read.ValueRead.the-variants as v
 use Rattle.values.proofs.Single.{single-read}
 use Rattle.values.proofs.Back.{Held}
 use Rattle.headers.specs.Header as headers

@@ -10,7 +10,9 @@ use Rattle.types.specs.Choice.{if}
 use Rattle.types.specs.Writing.{Left}
 use Rattle.numbers.specs.Integer.{twosComplement}
 use Rattle.numbers.specs.Reading.{partAt}
-use Rattle.values.specs.Value.{Value, boolean, real, double, onDate, atTime, objectId, characterString, octetString, enumerated, bitString, unsignedInt, signedInt, date, time, valueOf}
+use Rattle.values.specs.Date.{date}
+use Rattle.values.specs.Time.{time}
+use Rattle.values.specs.Value.{Value, boolean, real, double, onDate, atTime, objectId, characterString, octetString, enumerated, bitString, unsignedInt, signedInt, valueOf}
 use Rattle.values.specs.Writing.{valueTo}
 use Rattle.thaolisem.specs.Named.{ifAtMost, bytesNamed, ofBytes, namedTo}
 use Rattle.thaolisem.specs.declared.named.ValueNamed as program

@@ -2,13 +2,11 @@
 -- Assumes nothing.
 use mathlib.Core.Path.{_≡_, refl, _∙_, ap, ap₂, sym, subst}
 use mathlib.Core.Logic.{_↔_}
-use mathlib.Core.Bool.{Bool, true, false}
-use Prim.Native.Nat.{ℕ, zero, suc, _+_, _-_, _*_, _/_, _%_, _^_, _<_, _≤_}
+use Prim.Native.Nat.{ℕ, zero, suc, _+_, _<_, _≤_}
 use native.Mathlib.Omega.{arith}
 use mathlib.Core.List.{List, [], _∷_, _++_}
-use lib.Dec.{ltb, eqb, lit<}
+use lib.Dec.{ltb, lit<}
 use lib.ListN.{length, take, drop, length-take, length-drop}
-use lib.Ieee.{binary32, binary64, toBits, ofBits}
 use borrow.Author.Tests.{lt-ltb, le-ltb, eq-eqb, ne-eqb}
 use Rattle.types.specs.Tag.{application, Tag, tag}
 use Rattle.types.specs.Refusal.{amount}
@@ -16,23 +14,30 @@ use Rattle.types.specs.Answer.{accepted, refused}
 use Rattle.types.specs.Writing.{Left, left, Writable, can, unwritable, over, writeAnswer, writing}
 use Rattle.types.proofs.Choices.{either}
 use Rattle.types.proofs.Accepted.{could-be-written}
-use Rattle.numbers.specs.Integer.{lowBytes, unsignedValue, signedValue, unsignedBytes, signedBytes, Bytes}
+use Rattle.numbers.specs.Integer.{unsignedBytes, signedBytes, Bytes}
 use Rattle.numbers.specs.Reading.{Part, partAt, bytesIn}
-use Rattle.numbers.proofs.Value.{bytes-dropped, value-lt}
-use Rattle.numbers.proofs.Low.{low-bytes-of-value}
+use Rattle.numbers.proofs.Value.{bytes-dropped}
 use Rattle.numbers.proofs.Found.{behind}
 use Rattle.numbers.proofs.Wrote.{wrote, written-here, write-fits}
 use Rattle.tags.specs.Writing.{tagBytes}
-use Rattle.tags.specs.Item.{booleanByte}
 use Rattle.tags.proofs.OneTag.{same-front, one-tag}
 use Rattle.tags.proofs.Back.{header-is-tag}
+use Rattle.values.specs.Real.{realBytes, doubleBytes}
+use Rattle.values.specs.Text.{textWritable}
+use Rattle.values.specs.Bits.{Bits, IsBits, bitsWritable}
 use Rattle.values.specs.Value.{Value, boolean, real, double, onDate, atTime, objectId, characterString, octetString, enumerated, bitString, unsignedInt, signedInt}
 use Rattle.values.specs.Reading.{valueFrom}
-use Rattle.values.specs.Writing.{valueBytes, dateWritable, objectIdWritable, bitsWritable, textWritable, writableValue, valueTo}
+use Rattle.values.specs.Writing.{valueBytes, writableValue, valueTo}
 use Rattle.values.specs.Content.{Content, ofBoolean, ofUnsigned, ofSigned, ofReal, ofDouble, ofOctetString, ofText, ofBitString, ofEnumerated, ofDate, ofTime, ofObjectId}
+use Rattle.values.proofs.Booleans.{boolean-again, boolean-small}
+use Rattle.values.proofs.OctetStrings.{octets-again}
+use Rattle.values.proofs.Texts.{text-exactly, text-bytes, text-again}
+use Rattle.values.proofs.BitStrings.{bits-exactly, bits-bytes, bits-again}
+use Rattle.values.proofs.Dates.{date-again}
+use Rattle.values.proofs.Times.{time-again}
+use Rattle.values.proofs.ObjectIds.{object-id-again}
 use Rattle.values.proofs.Exactly.{ValueAt, read-exactly}
-use Rattle.values.proofs.Fits.{bits-exactly, text-exactly}
-use Rattle.values.proofs.Back.{tagUnder, contentUnder, bytes-are, tag-in-range, part-bytes, part-bytes-behind}
+use Rattle.values.proofs.Back.{tagUnder, contentUnder, bytes-are, tag-in-range}
 
 -- the bytes to lend where a value that was read is written again: those of its part
 abbrev pub lentOf : Value → List ℕ → List ℕ
@@ -51,18 +56,18 @@ lentOf (signedInt x) xs = []
 
 -- canonical content: a Boolean of 0 or 1, an integer in its fewest bytes, a float that is no other NaN than the one that is written; anything else is always
 abbrev pub Kept : {t : Tag} {p : ℕ} {bytes : List ℕ} {v : Value} → Content t p bytes v → Type 0
-Kept (ofBoolean {v}) = v ≤ 1
-Kept (ofUnsigned bytes s m) = unsignedBytes (unsignedValue bytes) ≡ bytes
-Kept (ofSigned bytes s m) = signedBytes (signedValue bytes) ≡ bytes
-Kept (ofReal bytes h) = lowBytes 4 (toBits binary32 (ofBits binary32 (unsignedValue bytes))) ≡ bytes
-Kept (ofDouble bytes h) = lowBytes 8 (toBits binary64 (ofBits binary64 (unsignedValue bytes))) ≡ bytes
-Kept (ofOctetString bytes) = Unit {0}
-Kept (ofText text w) = Unit {0}
-Kept (ofBitString bytes) = Unit {0}
-Kept (ofEnumerated bytes s m h) = unsignedBytes (unsignedValue bytes) ≡ bytes
-Kept ofDate = Unit {0}
-Kept ofTime = Unit {0}
-Kept (ofObjectId bytes h) = Unit {0}
+Kept (ofBoolean {v = v} i) = v ≤ 1
+Kept (ofUnsigned {bytes = bytes} {x = x} i) = unsignedBytes x ≡ bytes
+Kept (ofSigned {bytes = bytes} {x = x} i) = signedBytes x ≡ bytes
+Kept (ofReal {bytes = bytes} {x = x} i) = realBytes x ≡ bytes
+Kept (ofDouble {bytes = bytes} {x = x} i) = doubleBytes x ≡ bytes
+Kept (ofOctetString i) = Unit {0}
+Kept (ofText i) = Unit {0}
+Kept (ofBitString i) = Unit {0}
+Kept (ofEnumerated {bytes = bytes} {x = x} i) = unsignedBytes x ≡ bytes
+Kept (ofDate i) = Unit {0}
+Kept (ofTime i) = Unit {0}
+Kept (ofObjectId i) = Unit {0}
 
 -- the bit strings that can be read and not written: of more than seven unused bits, or of some where there are no bytes
 pub data Barred : Value → Type 0 where
@@ -77,82 +82,64 @@ barred-cannot xs (of-nothing {unused} {p} h s) =
     let z : length (bytesIn xs p) ≡ 0 = ap (λ (n : ℕ). length (take n (drop (p .start) xs))) s in
     either (λ (w : Writable). w ≡ unwritable) (ltb 7 unused) (λ e. refl) (λ e. simp (ne-eqb unused 0 (λ q. omega arith), eq-eqb (length (bytesIn xs p)) 0 z))
 
--- and no others
-bits-can : (unused place : ℕ) (bytes : List ℕ) → (Barred (bitString unused (partAt place (length bytes))) → ⊥) → bitsWritable unused bytes ≡ can
-bits-can unused place bytes n =
-    bits-exactly unused bytes .1 (
-      below 7 unused (λ h. n (too-many h)),
-      λ e. let z = below 0 unused (λ h. n (of-nothing h e)) in omega arith,
+-- and no others: their part is as long as their bytes
+bits-can : {len place : ℕ} {bytes : List ℕ} {b : Bits} (i : IsBits len place bytes b) → (Barred (bitString (b .unused) (b .part)) → ⊥) → bitsWritable (b .unused) (i .string) ≡ can
+bits-can {b = b} i n =
+    bits-exactly (b .unused) (i .string) .1 (
+      below 7 (b .unused) (λ h. n (too-many h)),
+      λ e. let z = below 0 (b .unused) (λ h. n (of-nothing h (ap (λ (p : Part). p .size) (i .lies) ∙ e))) in omega arith,
     )
   where
     below : (most m : ℕ) → (most < m → ⊥) → m ≤ most
     below most m h = omega arith
 
-truth : (v : ℕ) → v ≤ 1 → booleanByte (ltb 0 v) ≡ v
-truth zero h = refl
-truth (suc zero) h = refl
-truth (suc (suc v)) h = absurd (omega arith)
-
-truth-small : (b : Bool) → booleanByte b ≤ 1
-truth-small true = omega arith
-truth-small false = omega arith
-
 module _ (xs : List ℕ) where
-  -- canonical content is written again under its own tag
+  -- canonical content is written again under its own tag, each case by its own law
   same-content : {t : Tag} {p : ℕ} {bytes : List ℕ} {v : Value} (c : Content t p bytes v) → Bytes bytes → (rest : List ℕ) → drop p xs ≡ bytes ++ rest → Kept c
       → (tagUnder v (lentOf v xs) ≡ t) × (contentUnder v (lentOf v xs) ≡ bytes)
-  same-content (ofBoolean {v}) b rest e k = (ap (λ (n : ℕ). tag (application 1) n) (truth v k), refl)
-  same-content (ofUnsigned bytes s m) b rest e k = (ap (λ (l : List ℕ). tag (application 2) (length l)) k, k)
-  same-content (ofSigned bytes s m) b rest e k = (ap (λ (l : List ℕ). tag (application 3) (length l)) k, k)
-  same-content (ofReal bytes h) b rest e k = (refl, k)
-  same-content (ofDouble bytes h) b rest e k = (refl, k)
-  same-content (ofOctetString {place} bytes) b rest e k = let q = part-bytes xs place bytes rest e in (ap (λ (l : List ℕ). tag (application 6) (length l)) q, q)
-  same-content (ofText {place} text w) b rest e k =
-      let q = part-bytes-behind xs place 0 text rest e in
-      (ap (λ (l : List ℕ). tag (application 7) (suc (length l))) q, ap (λ (l : List ℕ). 0 ∷ l) q)
-  same-content (ofBitString {place} {unused} bytes) b rest e k =
-      let q = part-bytes-behind xs place unused bytes rest e in
-      (ap (λ (l : List ℕ). tag (application 8) (suc (length l))) q, ap (λ (l : List ℕ). unused ∷ l) q)
-  same-content (ofEnumerated bytes s m h) b rest e k = (ap (λ (l : List ℕ). tag (application 9) (length l)) k, k)
-  same-content (ofDate {y = y} {m = m} {d = d} {w = w}) b rest e k = (refl, ap (λ (n : ℕ). n ∷ m ∷ d ∷ w ∷ []) (let z : y + 1900 - 1900 ≡ y = omega arith in z))
-  same-content ofTime b rest e k = (refl, refl)
-  same-content (ofObjectId bytes h) b rest e k =
-      let n : ℕ = unsignedValue bytes in
-      let z : n / 4194304 * 4194304 + n % 4194304 ≡ n = omega arith in
-      (refl, ap (lowBytes 4) z ∙ (rw h at (low-bytes-of-value bytes b)))
+  same-content (ofBoolean i) b rest e k = let a = boolean-again i k in (ap (λ (n : ℕ). tag (application 1) n) (a .0), a .1)
+  same-content (ofUnsigned i) b rest e k = (ap (λ (n : ℕ). tag (application 2) n) (ap length k ∙ i .sized), k)
+  same-content (ofSigned i) b rest e k = (ap (λ (n : ℕ). tag (application 3) n) (ap length k ∙ i .sized), k)
+  same-content (ofReal i) b rest e k = (ap (λ (n : ℕ). tag (application 4) n) (sym (i .ofLength)), k)
+  same-content (ofDouble i) b rest e k = (ap (λ (n : ℕ). tag (application 4) n) (sym (i .ofLength)), k)
+  same-content (ofOctetString {place = place} {bytes = bytes} i) b rest e k = let a = octets-again xs place bytes rest e i in (ap (λ (n : ℕ). tag (application 6) n) (ap length a ∙ i .sized), a)
+  same-content (ofText {place = place} {bytes = bytes} i) b rest e k = let a = text-again xs place bytes rest e i in (ap (λ (n : ℕ). tag (application 7) n) (a .1), a .0)
+  same-content (ofBitString {place = place} {bytes = bytes} i) b rest e k = let a = bits-again xs place bytes rest e i in (ap (λ (n : ℕ). tag (application 8) n) (a .1), a .0)
+  same-content (ofEnumerated i) b rest e k = (ap (λ (n : ℕ). tag (application 9) n) (ap length k ∙ i .integer .sized), k)
+  same-content (ofDate i) b rest e k = let a = date-again i b in (ap (λ (n : ℕ). tag (application 10) n) (a .2), a .1)
+  same-content (ofTime i) b rest e k = let a = time-again i in (ap (λ (n : ℕ). tag (application 11) n) (a .1), a .0)
+  same-content (ofObjectId i) b rest e k = let a = object-id-again i b in (ap (λ (n : ℕ). tag (application 12) n) (a .2), a .1)
 
   -- and content that is written again under its own tag was canonical
   was-canonical : {t : Tag} {p : ℕ} {bytes : List ℕ} {v : Value} (c : Content t p bytes v) → tagUnder v (lentOf v xs) ≡ t → contentUnder v (lentOf v xs) ≡ bytes → Kept c
-  was-canonical (ofBoolean {v}) e f = subst (λ (n : ℕ). n ≤ 1) (ap (λ (t : Tag). t .value) e) (truth-small (ltb 0 v))
-  was-canonical (ofUnsigned bytes s m) e f = f
-  was-canonical (ofSigned bytes s m) e f = f
-  was-canonical (ofReal bytes h) e f = f
-  was-canonical (ofDouble bytes h) e f = f
-  was-canonical (ofOctetString bytes) e f = tt
-  was-canonical (ofText text w) e f = tt
-  was-canonical (ofBitString bytes) e f = tt
-  was-canonical (ofEnumerated bytes s m h) e f = f
-  was-canonical ofDate e f = tt
-  was-canonical ofTime e f = tt
-  was-canonical (ofObjectId bytes h) e f = tt
+  was-canonical (ofBoolean {b = b} i) e f = subst (λ (n : ℕ). n ≤ 1) (ap (λ (t : Tag). t .value) e) (boolean-small b)
+  was-canonical (ofUnsigned i) e f = f
+  was-canonical (ofSigned i) e f = f
+  was-canonical (ofReal i) e f = f
+  was-canonical (ofDouble i) e f = f
+  was-canonical (ofOctetString i) e f = tt
+  was-canonical (ofText i) e f = tt
+  was-canonical (ofBitString i) e f = tt
+  was-canonical (ofEnumerated i) e f = f
+  was-canonical (ofDate i) e f = tt
+  was-canonical (ofTime i) e f = tt
+  was-canonical (ofObjectId i) e f = tt
 
   -- what was read can be written, but for those bit strings
   can-again : {t : Tag} {p : ℕ} {bytes : List ℕ} {v : Value} (c : Content t p bytes v) → Bytes bytes → (rest : List ℕ) → drop p xs ≡ bytes ++ rest → (Barred v → ⊥) → writableValue v (lentOf v xs) ≡ can
-  unfolding writableValue dateWritable objectIdWritable
-  can-again ofBoolean b rest e n = refl
-  can-again (ofUnsigned bytes s m) b rest e n = refl
-  can-again (ofSigned bytes s m) b rest e n = refl
-  can-again (ofReal bytes h) b rest e n = refl
-  can-again (ofDouble bytes h) b rest e n = refl
-  can-again (ofOctetString bytes) b rest e n = refl
-  can-again (ofText {place} text w) b rest e n = ap textWritable (part-bytes-behind xs place 0 text rest e) ∙ text-exactly text .1 w
-  can-again (ofBitString {place} {unused} bytes) b rest e n = ap (bitsWritable unused) (part-bytes-behind xs place unused bytes rest e) ∙ bits-can unused (place + 1) bytes n
-  can-again (ofEnumerated bytes s m h) b rest e n = refl
-  can-again (ofDate {y = y}) b rest e n = simp (le-ltb (y + 1900) 1900 (omega arith), le-ltb 2155 (y + 1900) (omega (arith, b 0)))
-  can-again ofTime b rest e n = refl
-  can-again (ofObjectId bytes h) b rest e n =
-      let l : unsignedValue bytes < 256 ^ 4 = rw h at (value-lt bytes b) in
-      simp (le-ltb 1023 (unsignedValue bytes / 4194304) (omega arith), le-ltb 4194303 (unsignedValue bytes % 4194304) (omega arith))
+  unfolding writableValue
+  can-again (ofBoolean i) b rest e n = refl
+  can-again (ofUnsigned i) b rest e n = refl
+  can-again (ofSigned i) b rest e n = refl
+  can-again (ofReal i) b rest e n = refl
+  can-again (ofDouble i) b rest e n = refl
+  can-again (ofOctetString i) b rest e n = refl
+  can-again (ofText {place = place} {bytes = bytes} i) b rest e n = ap textWritable (text-bytes xs place bytes rest e i) ∙ text-exactly (i .text) .1 (i .utf8)
+  can-again (ofBitString {place = place} {bytes = bytes} {b = s} i) b rest e n = ap (bitsWritable (s .unused)) (bits-bytes xs place bytes rest e i) ∙ bits-can i n
+  can-again (ofEnumerated i) b rest e n = refl
+  can-again (ofDate i) b rest e n = date-again i b .0
+  can-again (ofTime i) b rest e n = refl
+  can-again (ofObjectId i) b rest e n = object-id-again i b .0
 
   -- its lent bytes are no more than the buffer's
   lent-within : (v : Value) → length (lentOf v xs) ≤ length xs

@@ -1,38 +1,47 @@
 -- What is written reads back as the same value, its part holding the lent bytes, with the next place at its end.
 -- Assumes nothing.
-use mathlib.Core.Path.{_≡_, refl, _∙_, ap, sym, subst, subst₂}
+use mathlib.Core.Path.{_≡_, refl, _∙_, ap, sym}
 use mathlib.Core.Bool.{true, false}
-use Prim.Native.Nat.{ℕ, suc, _+_, _-_, _*_, _/_, _%_, _^_, _<_, _≤_}
+use Prim.Native.Nat.{ℕ, suc, _+_, _^_, _<_, _≤_}
 use native.Mathlib.Omega.{arith}
 use mathlib.Core.List.{List, [], _∷_, _++_, append-assoc, append-nil}
 use lib.Dec.{T}
-use lib.ListN.{length, take, drop, length-append}
-use lib.Seq.{take-append-seam}
-use lib.IntN.{ℤ}
+use lib.ListN.{length, drop, length-append}
 use lib.Signed.{mag}
-use lib.Ieee.{Float, binary32, binary64, fits, toBits, ofBits}
-use lib.Ieee.Bits.{ofBits-toBits, toBits-lt}
+use lib.Ieee.{binary32, binary64, fits}
 use Rattle.types.specs.Tag.{application, Tag, tag}
 use Rattle.types.specs.Answer.{accepted}
 use Rattle.types.specs.Writing.{left, can}
 use Rattle.types.proofs.Accepted.{could-be-written}
-use Rattle.numbers.specs.Integer.{lowBytes, unsignedValue, unsignedBytes, signedBytes}
+use Rattle.numbers.specs.Integer.{unsignedBytes, signedBytes}
 use Rattle.numbers.specs.Reading.{partAt, bytesIn}
 use Rattle.numbers.proofs.Found.{behind}
-use Rattle.numbers.proofs.Low.{low-bytes-stand}
-use Rattle.numbers.proofs.Shortest.{unsigned-length, signed-length, signed-between, unsigned-shortest, signed-shortest}
+use Rattle.numbers.proofs.Shortest.{unsigned-length, signed-length, signed-between}
 use Rattle.numbers.proofs.Least.{length-between}
 use Rattle.numbers.proofs.Wrote.{wrote, written-here, over-length}
 use Rattle.tags.specs.Writing.{tagBytes}
 use Rattle.tags.specs.Item.{booleanByte}
 use Rattle.tags.proofs.Range.{InRange}
 use Rattle.tags.proofs.Back.{header-is-tag}
-use Rattle.values.specs.Value.{Value, boolean, real, double, onDate, atTime, objectId, characterString, octetString, enumerated, bitString, unsignedInt, signedInt, date}
+use Rattle.values.specs.Real.{realBytes, doubleBytes}
+use Rattle.values.specs.Date.{dateBytes}
+use Rattle.values.specs.Time.{timeBytes}
+use Rattle.values.specs.ObjectId.{identifier, objectIdBytes}
+use Rattle.values.specs.Value.{Value, boolean, real, double, onDate, atTime, objectId, characterString, octetString, enumerated, bitString, unsignedInt, signedInt}
 use Rattle.values.specs.Reading.{valueFrom}
-use Rattle.values.specs.Writing.{dateBytes, timeBytes, valueBytes, writableValue, valueTo}
+use Rattle.values.specs.Writing.{valueBytes, writableValue, valueTo}
 use Rattle.values.specs.Content.{Content, ofBoolean, ofUnsigned, ofSigned, ofReal, ofDouble, ofOctetString, ofText, ofBitString, ofEnumerated, ofDate, ofTime, ofObjectId}
+use Rattle.values.proofs.Parts.{part-bytes, part-bytes-behind}
+use Rattle.values.proofs.Booleans.{boolean-is}
+use Rattle.values.proofs.Integers.{unsigned-is, signed-is, enumerated-is}
+use Rattle.values.proofs.Reals.{real-is, double-is}
+use Rattle.values.proofs.OctetStrings.{octets-is}
+use Rattle.values.proofs.Texts.{text-is}
+use Rattle.values.proofs.BitStrings.{bits-is}
+use Rattle.values.proofs.Dates.{date-is}
+use Rattle.values.proofs.Times.{time-is}
+use Rattle.values.proofs.ObjectIds.{object-id-is}
 use Rattle.values.proofs.Exactly.{read-exactly}
-use Rattle.values.proofs.Fits.{date-exactly, id-exactly, text-exactly}
 
 -- the value as it reads back where its content begins at a place: text, octets and bits are the part that lies there, as long as the lent bytes
 abbrev pub placed : Value → ℕ → List ℕ → Value
@@ -98,15 +107,15 @@ abbrev pub contentUnder : Value → List ℕ → List ℕ
 contentUnder (boolean b) lent = []
 contentUnder (unsignedInt x) lent = unsignedBytes x
 contentUnder (signedInt x) lent = signedBytes x
-contentUnder (real x) lent = lowBytes 4 (toBits binary32 x)
-contentUnder (double x) lent = lowBytes 8 (toBits binary64 x)
+contentUnder (real x) lent = realBytes x
+contentUnder (double x) lent = doubleBytes x
 contentUnder (octetString p) lent = lent
 contentUnder (characterString p) lent = 0 ∷ lent
 contentUnder (bitString u p) lent = u ∷ lent
 contentUnder (enumerated x) lent = unsignedBytes x
 contentUnder (onDate d) lent = dateBytes d
 contentUnder (atTime t) lent = timeBytes t
-contentUnder (objectId n i) lent = lowBytes 4 (n * 4194304 + i)
+contentUnder (objectId n i) lent = objectIdBytes (identifier n i)
 
 -- a value's bytes are its tag's and its content
 pub bytes-are : (v : Value) (lent : List ℕ) → valueBytes v lent ≡ tagBytes (tagUnder v lent) ++ contentUnder v lent
@@ -124,45 +133,21 @@ bytes-are (bitString u q) lent = refl
 bytes-are (unsignedInt x) lent = refl
 bytes-are (signedInt x) lent = refl
 
-identifier-back : (n i : ℕ) → i ≤ 4194303 → ((n * 4194304 + i) / 4194304 ≡ n) × ((n * 4194304 + i) % 4194304 ≡ i)
-identifier-back n i h = (omega arith, omega arith)
-
--- the content that is written for a value is that value
+-- the content that is written for a value is that value, each case by its own law
 content-is : (v : Value) (lent : List ℕ) → writableValue v lent ≡ can → Held v → (p : ℕ) → Content (tagUnder v lent) p (contentUnder v lent) (placed v p lent)
 unfolding writableValue
-content-is (boolean true) lent w h p = ofBoolean
-content-is (boolean false) lent w h p = ofBoolean
-content-is (unsignedInt x) lent w h p =
-    let s = unsigned-shortest x h in
-    subst (λ (y : ℕ). Content (tag (application 2) (length (unsignedBytes x))) p (unsignedBytes x) (unsignedInt y)) (s .holds .stands) (ofUnsigned (unsignedBytes x) (s .holds .some) (s .most))
-content-is (signedInt x) lent w h p =
-    let s = signed-shortest x h in
-    subst (λ (y : ℤ). Content (tag (application 3) (length (signedBytes x))) p (signedBytes x) (signedInt y)) (s .holds .stands) (ofSigned (signedBytes x) (s .holds .some) (s .most))
-content-is (real x) lent w h p =
-    let b : ℕ = toBits binary32 x in
-    let e : ofBits binary32 (unsignedValue (lowBytes 4 b)) ≡ x = ap (ofBits binary32) (low-bytes-stand 4 b (toBits-lt binary32 x h)) ∙ ofBits-toBits binary32 x h in
-    subst (λ (y : Float). Content (tag (application 4) 4) p (lowBytes 4 b) (real y)) e (ofReal (lowBytes 4 b) refl)
-content-is (double x) lent w h p =
-    let b : ℕ = toBits binary64 x in
-    let e : ofBits binary64 (unsignedValue (lowBytes 8 b)) ≡ x = ap (ofBits binary64) (low-bytes-stand 8 b (toBits-lt binary64 x h)) ∙ ofBits-toBits binary64 x h in
-    subst (λ (y : Float). Content (tag (application 4) 8) p (lowBytes 8 b) (double y)) e (ofDouble (lowBytes 8 b) refl)
-content-is (octetString q) lent w h p = ofOctetString lent
-content-is (characterString q) lent w h p = ofText lent (text-exactly lent .0 w)
-content-is (bitString u q) lent w h p = ofBitString lent
-content-is (enumerated x) lent w h p =
-    let s = unsigned-shortest x (omega arith) in
-    subst (λ (y : ℕ). Content (tag (application 9) (length (unsignedBytes x))) p (unsignedBytes x) (enumerated y)) (s .holds .stands) (ofEnumerated (unsignedBytes x) (s .holds .some) (s .most) (omega (arith, s .holds .stands)))
-content-is (onDate d) lent w h p =
-    let f = date-exactly (d .year) .0 w in
-    let e : d .year - 1900 + 1900 ≡ d .year = omega arith in
-    subst (λ (y : ℕ). Content (tag (application 10) 4) p (dateBytes d) (onDate (date y (d .month) (d .day) (d .weekday)))) e ofDate
-content-is (atTime t) lent w h p = ofTime
-content-is (objectId n i) lent w h p =
-    let f = id-exactly n i .0 w in
-    let k : ℕ = n * 4194304 + i in
-    let b = identifier-back n i (f .1) in
-    let s : unsignedValue (lowBytes 4 k) ≡ k = low-bytes-stand 4 k (omega arith) in
-    subst₂ (λ (x y : ℕ). Content (tag (application 12) 4) p (lowBytes 4 k) (objectId x y)) (ap (λ (m : ℕ). m / 4194304) s ∙ b .0) (ap (λ (m : ℕ). m % 4194304) s ∙ b .1) (ofObjectId (lowBytes 4 k) refl)
+content-is (boolean b) lent w h p = ofBoolean (boolean-is b)
+content-is (unsignedInt x) lent w h p = ofUnsigned (unsigned-is x h)
+content-is (signedInt x) lent w h p = ofSigned (signed-is x h)
+content-is (real x) lent w h p = ofReal (real-is x h)
+content-is (double x) lent w h p = ofDouble (double-is x h)
+content-is (octetString q) lent w h p = ofOctetString (octets-is p lent)
+content-is (characterString q) lent w h p = ofText (text-is p lent w)
+content-is (bitString u q) lent w h p = ofBitString (bits-is u p lent)
+content-is (enumerated x) lent w h p = ofEnumerated (enumerated-is x h)
+content-is (onDate d) lent w h p = ofDate (date-is d w)
+content-is (atTime t) lent w h p = ofTime (time-is t)
+content-is (objectId n i) lent w h p = ofObjectId (object-id-is (identifier n i) w)
 
 -- its tag is one that bytes can carry
 pub tag-in-range : (v : Value) (lent : List ℕ) → length lent ≤ 65535 → InRange (tagUnder v lent .number) (tagUnder v lent .value)
@@ -179,14 +164,6 @@ tag-in-range (enumerated x) lent l = omega (arith, unsigned-length x, length-bet
 tag-in-range (onDate d) lent l = omega arith
 tag-in-range (atTime t) lent l = omega arith
 tag-in-range (objectId n i) lent l = omega arith
-
--- the bytes of a part that stands at a place
-pub part-bytes : (xs : List ℕ) (p : ℕ) (bytes rest : List ℕ) → drop p xs ≡ bytes ++ rest → bytesIn xs (partAt p (length bytes)) ≡ bytes
-part-bytes xs p bytes rest e = ap (take (length bytes)) e ∙ take-append-seam bytes rest
-
--- and of one that stands behind a byte
-pub part-bytes-behind : (xs : List ℕ) (p b : ℕ) (bytes rest : List ℕ) → drop p xs ≡ b ∷ (bytes ++ rest) → bytesIn xs (partAt (p + 1) (length bytes)) ≡ bytes
-part-bytes-behind xs p b bytes rest e = part-bytes xs (p + 1) bytes rest (behind xs p (b ∷ []) (bytes ++ rest) e)
 
 -- content that stands at a place has the lent bytes in the value's part
 holds-lent : (v : Value) (lent ys : List ℕ) (p : ℕ) (rest : List ℕ) → drop p ys ≡ contentUnder v lent ++ rest → PartHolds (placed v p lent) ys lent

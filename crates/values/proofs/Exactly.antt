@@ -2,27 +2,31 @@
 -- Assumes nothing.
 use mathlib.Core.Path.{_≡_, _∙_, ap, sym, subst}
 use mathlib.Core.Logic.{_↔_}
-use Prim.Native.Nat.{ℕ, suc, _+_, _-_, _≤_}
-use native.Mathlib.Nat.{add-zero}
+use Prim.Native.Nat.{ℕ, _+_, _≤_}
 use native.Mathlib.Omega.{arith}
-use mathlib.Core.List.{List, [], _∷_, _++_}
-use lib.Dec.{ltb}
-use lib.ListN.{length, getD, take, drop, length-drop, length-append}
-use lib.Seq.{getD-drop, take-append-seam}
-use borrow.Author.Tests.{le-ltb}
+use mathlib.Core.List.{List, _++_}
+use lib.ListN.{length, drop, length-drop, length-append}
+use lib.Ieee.{binary32, binary64}
+use borrow.Author.Tests.{eq-eqb, ne-eqb}
 use Rattle.types.specs.Tag.{Tag}
 use Rattle.types.specs.Answer.{Answer, accepted, refused}
 use Rattle.types.proofs.Choices.{read-on}
-use Rattle.numbers.specs.Integer.{unsignedValue}
-use Rattle.numbers.specs.Reading.{partAt, sliceFrom, fixedFrom}
-use Rattle.numbers.proofs.Found.{byte-at, slice-at, fixed-at, unsigned-at, signed-at, behind}
+use Rattle.numbers.proofs.Found.{behind}
 use Rattle.tags.specs.Reading.{tagFrom}
 use Rattle.tags.specs.Header.{IsTag}
 use Rattle.tags.proofs.Exactly.{TagFound, tag-found, tag-read, tag-length}
-use Rattle.utf8.proofs.Exactly.{good-exactly}
-use Rattle.values.specs.Value.{Value, boolean}
-use Rattle.values.specs.Reading.{booleanUnder, unsignedUnder, signedUnder, realUnder, octetsUnder, textIn, textUnder, bitsUnder, enumeratedUnder, dateUnder, timeUnder, objectIdUnder, ofKind, underTag, valueFrom}
+use Rattle.values.specs.Value.{Value}
+use Rattle.values.specs.Reading.{realOrDouble, ofKind, underTag, valueFrom}
 use Rattle.values.specs.Content.{Content, ofBoolean, ofUnsigned, ofSigned, ofReal, ofDouble, ofOctetString, ofText, ofBitString, ofEnumerated, ofDate, ofTime, ofObjectId}
+use Rattle.values.proofs.Booleans.{boolean-read}
+use Rattle.values.proofs.Integers.{unsigned-read, signed-read, enumerated-read}
+use Rattle.values.proofs.Reals.{float-read}
+use Rattle.values.proofs.OctetStrings.{octets-read}
+use Rattle.values.proofs.Texts.{text-read}
+use Rattle.values.proofs.BitStrings.{bits-read}
+use Rattle.values.proofs.Dates.{date-read}
+use Rattle.values.proofs.Times.{time-read}
+use Rattle.values.proofs.ObjectIds.{object-id-read}
 use Rattle.values.proofs.Found.{Or, under-or}
 
 -- what stands at a place where a value is: one whole tag, and behind it content that is the value
@@ -65,47 +69,22 @@ value-or xs place =
     )
     go t after f (refused n d) c = tt
 
--- content that stands at a place is read there
+-- content that stands at a place is read there, each case by its own law
 module _ (xs : List ℕ) (small : length xs ≤ 65535) where
-  -- the elements of four bytes that stand at a place
-  fourth : (place : ℕ) (bytes : List ℕ) (rest : List ℕ) (i : ℕ) → drop place xs ≡ bytes ++ rest → getD xs (place + i) 0 ≡ getD (bytes ++ rest) i 0
-  fourth place bytes rest i e = sym (getD-drop place xs i 0) ∙ ap (λ (l : List ℕ). getD l i 0) e
-
-  fixed-four : (place n : ℕ) (bytes rest : List ℕ) → length bytes ≡ n → place ≤ length xs → drop place xs ≡ bytes ++ rest → fixedFrom n xs place ≡ accepted (unsignedValue bytes) (place + length bytes)
-  fixed-four place n bytes rest h l e = subst (λ (k : ℕ). fixedFrom k xs place ≡ accepted (unsignedValue bytes) (place + length bytes)) h (fixed-at xs place bytes rest small l e)
-
-  part-behind : (place b : ℕ) (bytes rest : List ℕ) → drop place xs ≡ b ∷ (bytes ++ rest) → sliceFrom (suc (length bytes) - 1) xs (place + 1) ≡ accepted (partAt (place + 1) (length bytes)) (place + suc (length bytes))
-  part-behind place b bytes rest e =
-      let n : suc (length bytes) - 1 ≡ length bytes = omega arith in
-      let l : place + 1 ≤ length xs = omega (arith, length-drop place xs, ap length e) in
-      ap (λ (k : ℕ). sliceFrom k xs (place + 1)) n
-      ∙ slice-at xs (place + 1) bytes rest small l (behind xs place (b ∷ []) (bytes ++ rest) e)
-      ∙ ap (accepted (partAt (place + 1) (length bytes))) (let z : place + 1 + length bytes ≡ place + suc (length bytes) = omega arith in z)
-
   content-read : {t : Tag} {place : ℕ} {bytes : List ℕ} {v : Value} → Content t place bytes v → (rest : List ℕ) → place ≤ length xs → drop place xs ≡ bytes ++ rest → underTag t xs place ≡ accepted v (place + length bytes)
-  unfolding underTag ofKind booleanUnder unsignedUnder signedUnder realUnder octetsUnder textUnder textIn bitsUnder enumeratedUnder dateUnder timeUnder objectIdUnder
-  content-read (ofBoolean {v} {place}) rest l e = ap (accepted (boolean (ltb 0 v))) (sym (add-zero place))
-  content-read (ofUnsigned {place} bytes s m) rest l e = simp (unsigned-at xs place bytes rest small s m e)
-  content-read (ofSigned {place} bytes s m) rest l e = simp (signed-at xs place bytes rest small s m e)
-  content-read (ofReal {place} bytes h) rest l e = simp (fixed-four place 4 bytes rest h l e)
-  content-read (ofDouble {place} bytes h) rest l e = simp (fixed-four place 8 bytes rest h l e)
-  content-read (ofOctetString {place} bytes) rest l e = simp (slice-at xs place bytes rest small l e)
-  content-read (ofText {place} text w) rest l e =
-      let b : take (length text) (drop (place + 1) xs) ≡ text = ap (take (length text)) (behind xs place (0 ∷ []) (text ++ rest) e) ∙ take-append-seam text rest in
-      simp (le-ltb (suc (length text)) 1 (omega arith), byte-at xs place 0 (text ++ rest) small e, part-behind place 0 text rest e, b, good-exactly text .1 w)
-  content-read (ofBitString {place} {unused} bytes) rest l e =
-      simp (le-ltb (suc (length bytes)) 1 (omega arith), byte-at xs place unused (bytes ++ rest) small e, part-behind place unused bytes rest e)
-  content-read (ofEnumerated {place} bytes s m h) rest l e = simp (unsigned-at xs place bytes rest small s m e, le-ltb 4294967295 (unsignedValue bytes) h)
-  content-read (ofDate {place} {y} {m} {d} {w}) rest l e =
-      let bytes : List ℕ = y ∷ m ∷ d ∷ w ∷ [] in
-      let g₀ : getD xs place 0 ≡ y = ap (λ (k : ℕ). getD xs k 0) (sym (add-zero place)) ∙ fourth place bytes rest 0 e in
-      simp (slice-at xs place bytes rest small l e, g₀, fourth place bytes rest 1 e, fourth place bytes rest 2 e, fourth place bytes rest 3 e)
-  content-read (ofTime {place} {h} {m} {s} {c}) rest l e =
-      let bytes : List ℕ = h ∷ m ∷ s ∷ c ∷ [] in
-      let g₀ : getD xs place 0 ≡ h = ap (λ (k : ℕ). getD xs k 0) (sym (add-zero place)) ∙ fourth place bytes rest 0 e in
-      let n : place + 4 ≤ length xs = omega (arith, length-drop place xs, ap length e) in
-      simp (le-ltb (length xs) (place + 4) n, g₀, fourth place bytes rest 1 e, fourth place bytes rest 2 e, fourth place bytes rest 3 e)
-  content-read (ofObjectId {place} bytes h) rest l e = simp (fixed-four place 4 bytes rest h l e)
+  unfolding underTag ofKind realOrDouble
+  content-read (ofBoolean {place = place} i) rest l e = simp (boolean-read i place)
+  content-read (ofUnsigned {place = place} {bytes = bytes} i) rest l e = simp (unsigned-read xs place bytes rest small e i)
+  content-read (ofSigned {place = place} {bytes = bytes} i) rest l e = simp (signed-read xs place bytes rest small e i)
+  content-read (ofReal {len} {place} {bytes} i) rest l e = simp (ne-eqb len 8 (λ q. omega (arith, i .ofLength)), float-read binary32 4 xs place bytes rest small l e i)
+  content-read (ofDouble {len} {place} {bytes} i) rest l e = simp (eq-eqb len 8 (i .ofLength), float-read binary64 8 xs place bytes rest small l e i)
+  content-read (ofOctetString {place = place} {bytes = bytes} i) rest l e = simp (octets-read xs place bytes rest e i small l)
+  content-read (ofText {place = place} {bytes = bytes} i) rest l e = simp (text-read xs place bytes rest e i small)
+  content-read (ofBitString {place = place} {bytes = bytes} i) rest l e = simp (bits-read xs place bytes rest e i small)
+  content-read (ofEnumerated {place = place} {bytes = bytes} i) rest l e = simp (enumerated-read xs place bytes rest small e i)
+  content-read (ofDate {place = place} i) rest l e = simp (date-read xs place rest small l i e)
+  content-read (ofTime {place = place} i) rest l e = simp (time-read xs place rest i e l)
+  content-read (ofObjectId {place = place} {bytes = bytes} i) rest l e = simp (object-id-read xs place bytes rest small l e i)
 
   value-read : (place : ℕ) (v : Value) (next : ℕ) → ValueAt xs place v next → valueFrom xs place ≡ accepted v next
   unfolding valueFrom

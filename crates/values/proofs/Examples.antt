@@ -12,8 +12,16 @@ use Rattle.numbers.specs.Reading.{partAt, byteFrom, sliceFrom, fixedFrom, conte
 use Rattle.tags.specs.Reading.{numberFrom, tagValueFrom, tagAfter, tagFrom}
 use Rattle.utf8.specs.Table.{UTF8-1, UTF8-2, UTF8-3, UTF8-4, UTF8-char}
 use Rattle.utf8.specs.Check.{within, begins, sequenceLength, afterFirst, checkFrom, checkOf}
-use Rattle.values.specs.Value.{Value, boolean, onDate, atTime, objectId, characterString, octetString, enumerated, bitString, signedInt, date, time}
-use Rattle.values.specs.Reading.{booleanUnder, unsignedUnder, signedUnder, realUnder, octetsUnder, textIn, textUnder, bitsUnder, enumeratedUnder, dateUnder, timeUnder, objectIdUnder, ofKind, underTag, valueFrom}
+use Rattle.values.specs.Boolean.{booleanUnder}
+use Rattle.values.specs.Integer.{enumeratedUnder}
+use Rattle.values.specs.Real.{floatUnder}
+use Rattle.values.specs.Text.{textIn, textUnder}
+use Rattle.values.specs.Bits.{bitsUnder}
+use Rattle.values.specs.Date.{date, dateUnder}
+use Rattle.values.specs.Time.{time, timeUnder}
+use Rattle.values.specs.ObjectId.{objectIdUnder}
+use Rattle.values.specs.Value.{Value, boolean, onDate, atTime, objectId, characterString, octetString, enumerated, bitString, signedInt}
+use Rattle.values.specs.Reading.{realOrDouble, ofKind, underTag, valueFrom}
 
 abbrev pub buffers : List (List ℕ)
 buffers =
@@ -36,5 +44,5 @@ answers =
     ∷ refused 8 (tagFound (tag (application 0) 0)) ∷ refused 8 (tagFound (tag (application 5) 8)) ∷ refused 8 (tagFound (tag (context 1) 4)) ∷ refused 7 (amount 3) ∷ []
 
 pub edges : map (λ (xs : List ℕ). valueFrom xs 0) buffers ≡ answers
-unfolding byteFrom sliceFrom fixedFrom contentFrom unsignedFrom signedFrom numberFrom tagValueFrom tagAfter tagFrom UTF8-1 UTF8-2 UTF8-3 UTF8-4 UTF8-char within begins sequenceLength afterFirst checkFrom checkOf booleanUnder unsignedUnder signedUnder realUnder octetsUnder textIn textUnder bitsUnder enumeratedUnder dateUnder timeUnder objectIdUnder ofKind underTag valueFrom
+unfolding byteFrom sliceFrom fixedFrom contentFrom unsignedFrom signedFrom numberFrom tagValueFrom tagAfter tagFrom UTF8-1 UTF8-2 UTF8-3 UTF8-4 UTF8-char within begins sequenceLength afterFirst checkFrom checkOf booleanUnder floatUnder realOrDouble textIn textUnder bitsUnder enumeratedUnder dateUnder timeUnder objectIdUnder ofKind underTag valueFrom
 edges = refl

@@ -1,4 +1,16 @@
 pub mod Patterns
+pub mod Lent
+pub mod Standing
+pub mod Parts
+pub mod Booleans
+pub mod Integers
+pub mod Reals
+pub mod OctetStrings
+pub mod Texts
+pub mod BitStrings
+pub mod Dates
+pub mod Times
+pub mod ObjectIds
 pub mod Found
 pub mod Exactly
 pub mod Single

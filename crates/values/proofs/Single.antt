@@ -6,18 +6,22 @@ use Rattle.types.specs.Answer.{Answer, accepted, refused}
 use Rattle.types.proofs.Single.{told-apart, programRefusal, refusal-back}
 use Rattle.values.specs.Value.{Value, boolean, real, double, onDate, atTime, objectId, characterString, octetString, enumerated, bitString, unsignedInt, signedInt, valueOf}
 use Rattle.values.specs.Reading.{paperValue}
+use Rattle.values.specs.ObjectId.{identifier}
 use Rattle.values.specs.declared.value.ApplicationDataValue.{ApplicationDataValue}
 use Rattle.values.specs.declared.value.ApplicationDataValue.the-variants as v
-use Rattle.values.specs.declared.reading.ValueRead.{ValueRead}
-use Rattle.values.specs.declared.reading.ValueRead.the-variants as r
+use Rattle.values.specs.declared.value_read.ValueRead.{ValueRead}
+use Rattle.values.specs.declared.value_read.ValueRead.the-variants as r
+use Rattle.values.proofs.Dates.{programDate, date-back}
+use Rattle.values.proofs.Times.{programTime, time-back}
+use Rattle.values.proofs.ObjectIds.{programId, id-back}
 
 abbrev pub programValue : Value → ApplicationDataValue
 programValue (boolean b) = v.Boolean b
 programValue (real x) = v.Real x
 programValue (double x) = v.Double x
-programValue (onDate d) = v.Date (record { year = d .year; month = d .month; day = d .day; wday = d .weekday })
-programValue (atTime t) = v.Time (record { hour = t .hour; minute = t .minute; second = t .second; hundredths = t .hundredths })
-programValue (objectId n i) = v.ObjectId (record { «object_type» = n; instance = i })
+programValue (onDate d) = v.Date (programDate d)
+programValue (atTime t) = v.Time (programTime t)
+programValue (objectId n i) = v.ObjectId (programId (identifier n i))
 programValue (characterString p) = v.CharacterString (p .start) (p .size)
 programValue (octetString p) = v.OctetString (p .start) (p .size)
 programValue (enumerated x) = v.Enumerated x
@@ -29,9 +33,9 @@ pub value-back : (x : ApplicationDataValue) → programValue (valueOf x) ≡ x
 value-back (v.Boolean b) = refl
 value-back (v.Real x) = refl
 value-back (v.Double x) = refl
-value-back (v.Date d) = refl
-value-back (v.Time t) = refl
-value-back (v.ObjectId i) = refl
+value-back (v.Date d) = ap v.Date (date-back d)
+value-back (v.Time t) = ap v.Time (time-back t)
+value-back (v.ObjectId i) = ap v.ObjectId (id-back i)
 value-back (v.CharacterString p n) = refl
 value-back (v.OctetString p n) = refl
 value-back (v.Enumerated x) = refl

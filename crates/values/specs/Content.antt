@@ -1,28 +1,35 @@
--- Which bytes are a value, said and not computed: a tag's content, where it begins, and the value that it is (ASHRAE 135, 20.2.3 to 20.2.14).
+-- Which bytes are a value, said and not computed: a tag's content, where it begins, and the value that it is (ASHRAE 135, 20.2.3 to 20.2.14). What each case asks of its bytes stands in the case's own file.
 -- Assumes nothing.
-use Prim.Native.Nat.{ℕ, suc, _+_, _/_, _%_, _≤_}
-use mathlib.Core.Path.{_≡_}
-use mathlib.Core.List.{List, [], _∷_}
-use lib.Dec.{ltb}
-use lib.ListN.{length}
-use lib.Ieee.{binary32, binary64, ofBits}
+use Prim.Native.Nat.{ℕ}
+use mathlib.Core.Bool.{Bool}
+use mathlib.Core.List.{List}
+use lib.IntN.{ℤ}
+use lib.Ieee.{Float, binary32, binary64}
 use Rattle.types.specs.Tag.{application, Tag, tag}
 use Rattle.numbers.specs.Integer.{unsignedValue, signedValue}
-use Rattle.numbers.specs.Reading.{partAt}
-use Rattle.utf8.specs.Text.{Text}
-use Rattle.values.specs.Value.{Value, boolean, real, double, onDate, atTime, objectId, characterString, octetString, enumerated, bitString, unsignedInt, signedInt, date, time}
+use Rattle.numbers.specs.Reading.{Part}
+use Rattle.values.specs.Boolean.{IsBoolean}
+use Rattle.values.specs.Integer.{IsInteger, IsEnumerated}
+use Rattle.values.specs.Real.{IsFloat}
+use Rattle.values.specs.Octets.{IsOctets}
+use Rattle.values.specs.Text.{IsText}
+use Rattle.values.specs.Bits.{Bits, IsBits}
+use Rattle.values.specs.Date.{Date, IsDate}
+use Rattle.values.specs.Time.{Time, IsTime}
+use Rattle.values.specs.ObjectId.{ObjectId, IsObjectId}
+use Rattle.values.specs.Value.{Value, boolean, real, double, onDate, atTime, objectId, characterString, octetString, enumerated, bitString, unsignedInt, signedInt}
 
 -- under this tag, content that begins at this place and has these bytes is this value
 pub data Content : Tag → ℕ → List ℕ → Value → Type 0 where
-  ofBoolean : {v place : ℕ} → Content (tag (application 1) v) place [] (boolean (ltb 0 v))
-  ofUnsigned : {place : ℕ} (bytes : List ℕ) → 1 ≤ length bytes → length bytes ≤ 8 → Content (tag (application 2) (length bytes)) place bytes (unsignedInt (unsignedValue bytes))
-  ofSigned : {place : ℕ} (bytes : List ℕ) → 1 ≤ length bytes → length bytes ≤ 8 → Content (tag (application 3) (length bytes)) place bytes (signedInt (signedValue bytes))
-  ofReal : {place : ℕ} (bytes : List ℕ) → length bytes ≡ 4 → Content (tag (application 4) 4) place bytes (real (ofBits binary32 (unsignedValue bytes)))
-  ofDouble : {place : ℕ} (bytes : List ℕ) → length bytes ≡ 8 → Content (tag (application 4) 8) place bytes (double (ofBits binary64 (unsignedValue bytes)))
-  ofOctetString : {place : ℕ} (bytes : List ℕ) → Content (tag (application 6) (length bytes)) place bytes (octetString (partAt place (length bytes)))
-  ofText : {place : ℕ} (text : List ℕ) → Text text → Content (tag (application 7) (suc (length text))) place (0 ∷ text) (characterString (partAt (place + 1) (length text)))
-  ofBitString : {place unused : ℕ} (bytes : List ℕ) → Content (tag (application 8) (suc (length bytes))) place (unused ∷ bytes) (bitString unused (partAt (place + 1) (length bytes)))
-  ofEnumerated : {place : ℕ} (bytes : List ℕ) → 1 ≤ length bytes → length bytes ≤ 8 → unsignedValue bytes ≤ 4294967295 → Content (tag (application 9) (length bytes)) place bytes (enumerated (unsignedValue bytes))
-  ofDate : {place y m d w : ℕ} → Content (tag (application 10) 4) place (y ∷ m ∷ d ∷ w ∷ []) (onDate (date (y + 1900) m d w))
-  ofTime : {place h m s c : ℕ} → Content (tag (application 11) 4) place (h ∷ m ∷ s ∷ c ∷ []) (atTime (time h m s c))
-  ofObjectId : {place : ℕ} (bytes : List ℕ) → length bytes ≡ 4 → Content (tag (application 12) 4) place bytes (objectId (unsignedValue bytes / 4194304) (unsignedValue bytes % 4194304))
+  ofBoolean : {v place : ℕ} {bytes : List ℕ} {b : Bool} → IsBoolean v bytes b → Content (tag (application 1) v) place bytes (boolean b)
+  ofUnsigned : {len place : ℕ} {bytes : List ℕ} {x : ℕ} → IsInteger unsignedValue len bytes x → Content (tag (application 2) len) place bytes (unsignedInt x)
+  ofSigned : {len place : ℕ} {bytes : List ℕ} {x : ℤ} → IsInteger signedValue len bytes x → Content (tag (application 3) len) place bytes (signedInt x)
+  ofReal : {len place : ℕ} {bytes : List ℕ} {x : Float} → IsFloat binary32 4 len bytes x → Content (tag (application 4) len) place bytes (real x)
+  ofDouble : {len place : ℕ} {bytes : List ℕ} {x : Float} → IsFloat binary64 8 len bytes x → Content (tag (application 4) len) place bytes (double x)
+  ofOctetString : {len place : ℕ} {bytes : List ℕ} {p : Part} → IsOctets len place bytes p → Content (tag (application 6) len) place bytes (octetString p)
+  ofText : {len place : ℕ} {bytes : List ℕ} {p : Part} → IsText len place bytes p → Content (tag (application 7) len) place bytes (characterString p)
+  ofBitString : {len place : ℕ} {bytes : List ℕ} {b : Bits} → IsBits len place bytes b → Content (tag (application 8) len) place bytes (bitString (b .unused) (b .part))
+  ofEnumerated : {len place : ℕ} {bytes : List ℕ} {x : ℕ} → IsEnumerated len bytes x → Content (tag (application 9) len) place bytes (enumerated x)
+  ofDate : {len place : ℕ} {bytes : List ℕ} {d : Date} → IsDate len bytes d → Content (tag (application 10) len) place bytes (onDate d)
+  ofTime : {len place : ℕ} {bytes : List ℕ} {t : Time} → IsTime len bytes t → Content (tag (application 11) len) place bytes (atTime t)
+  ofObjectId : {len place : ℕ} {bytes : List ℕ} {o : ObjectId} → IsObjectId len bytes o → Content (tag (application 12) len) place bytes (objectId (o .type) (o .instance))

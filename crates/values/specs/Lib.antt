@@ -1,3 +1,12 @@
+pub mod Boolean
+pub mod Integer
+pub mod Real
+pub mod Octets
+pub mod Text
+pub mod Bits
+pub mod Date
+pub mod Time
+pub mod ObjectId
 pub mod Value
 pub mod Reading
 pub mod Content

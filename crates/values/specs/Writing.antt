@@ -1,68 +1,41 @@
--- Writing a value (ASHRAE 135, 20.2.3 to 20.2.14, with 01's rules): its bytes, and which values cannot be written.
+-- Writing a value (ASHRAE 135, 20.2.3 to 20.2.14, with 01's rules): its bytes, and which values cannot be written, each case by its own file.
 -- Assumes nothing.
-use Prim.Native.Nat.{ℕ, _+_, _-_, _*_, _≤_}
-use mathlib.Core.Path.{_≡_}
-use mathlib.Core.List.{List, [], _∷_}
-use lib.Dec.{ltb, eqb}
+use Prim.Native.Nat.{ℕ}
+use mathlib.Core.List.{List, _∷_}
 use lib.ListN.{length}
-use lib.Ieee.{binary32, binary64, toBits}
-use Rattle.types.specs.Choice.{if}
 use Rattle.types.specs.Tag.{application, tag}
 use Rattle.types.specs.Answer.{Outcome, passed, stopped}
-use Rattle.types.specs.Writing.{Left, Writable, can, cannot, unwritable, writing}
-use Rattle.numbers.specs.Integer.{lowBytes, unsignedBytes, signedBytes}
+use Rattle.types.specs.Writing.{Left, Writable, can, cannot, writing}
+use Rattle.numbers.specs.Integer.{unsignedBytes, signedBytes}
 use Rattle.tags.specs.Writing.{tagBytes}
 use Rattle.tags.specs.Item.{itemBytes, booleanByte}
 use Rattle.utf8.specs.Text.{Text}
-use Rattle.utf8.specs.Check.{checkOf}
-use Rattle.utf8.specs.Answer.{textOutcome}
-use Rattle.values.specs.Value.{Value, boolean, real, double, onDate, atTime, objectId, characterString, octetString, enumerated, bitString, unsignedInt, signedInt, Date, Time}
-
--- a date: the year less 1900, month, day, weekday
-abbrev pub dateBytes : Date → List ℕ
-dateBytes d = (d .year - 1900) ∷ d .month ∷ d .day ∷ d .weekday ∷ []
-
-abbrev pub timeBytes : Time → List ℕ
-timeBytes t = t .hour ∷ t .minute ∷ t .second ∷ t .hundredths ∷ []
+use Rattle.values.specs.Real.{realBytes, doubleBytes}
+use Rattle.values.specs.Text.{textWritable}
+use Rattle.values.specs.Bits.{bitsWritable, BitsWrite}
+use Rattle.values.specs.Date.{dateBytes, dateWritable, DateWrites}
+use Rattle.values.specs.Time.{timeBytes}
+use Rattle.values.specs.ObjectId.{identifier, objectIdBytes, objectIdWritable, ObjectIdWrites}
+use Rattle.values.specs.Value.{Value, boolean, real, double, onDate, atTime, objectId, characterString, octetString, enumerated, bitString, unsignedInt, signedInt}
 
 -- a value's bytes, the lent bytes being the content of text, octets and bits: a Boolean is its tag alone; a Double stands under the Real tag, as 01 keeps it
 abbrev pub bytesOf : Value → List ℕ → List ℕ
 bytesOf (boolean b) lent = tagBytes (tag (application 1) (booleanByte b))
 bytesOf (unsignedInt x) lent = itemBytes (application 2) (unsignedBytes x)
 bytesOf (signedInt x) lent = itemBytes (application 3) (signedBytes x)
-bytesOf (real x) lent = itemBytes (application 4) (lowBytes 4 (toBits binary32 x))
-bytesOf (double x) lent = itemBytes (application 4) (lowBytes 8 (toBits binary64 x))
+bytesOf (real x) lent = itemBytes (application 4) (realBytes x)
+bytesOf (double x) lent = itemBytes (application 4) (doubleBytes x)
 bytesOf (octetString p) lent = itemBytes (application 6) lent
 bytesOf (characterString p) lent = itemBytes (application 7) (0 ∷ lent)
 bytesOf (bitString unused p) lent = itemBytes (application 8) (unused ∷ lent)
 bytesOf (enumerated x) lent = itemBytes (application 9) (unsignedBytes x)
 bytesOf (onDate d) lent = itemBytes (application 10) (dateBytes d)
 bytesOf (atTime t) lent = itemBytes (application 11) (timeBytes t)
-bytesOf (objectId n i) lent = itemBytes (application 12) (lowBytes 4 (n * 4194304 + i))
+bytesOf (objectId n i) lent = itemBytes (application 12) (objectIdBytes (identifier n i))
 
 -- a value's bytes
 unfoldable pub valueBytes : Value → List ℕ → List ℕ
 valueBytes v lent = bytesOf v lent
-
--- a year from 1900 to 2155
-unfoldable pub dateWritable : ℕ → Writable
-dateWritable year = if (ltb year 1900) unwritable (if (ltb 2155 year) unwritable can)
-
--- a type of ten bits, an instance of 22
-unfoldable pub objectIdWritable : ℕ → ℕ → Writable
-objectIdWritable n i = if (ltb 1023 n) unwritable (if (ltb 4194303 i) unwritable can)
-
--- at most seven unused bits, and none where there are no bytes
-unfoldable pub bitsWritable : ℕ → List ℕ → Writable
-bitsWritable unused lent = if (ltb 7 unused) unwritable (if (eqb unused 0) can (if (eqb (length lent) 0) unwritable can))
-
--- text that the check passes; else by its number, and with what that carries
-abbrev pub textWritableBy : Outcome → Writable
-textWritableBy passed = can
-textWritableBy (stopped n c) = cannot n c
-
-unfoldable pub textWritable : List ℕ → Writable
-textWritable lent = textWritableBy (textOutcome (checkOf lent))
 
 -- whether a value can be written at all
 abbrev pub writableBy : Value → List ℕ → Writable
@@ -75,9 +48,9 @@ writableBy (octetString p) lent = can
 writableBy (characterString p) lent = textWritable lent
 writableBy (bitString unused p) lent = bitsWritable unused lent
 writableBy (enumerated x) lent = can
-writableBy (onDate d) lent = dateWritable (d .year)
+writableBy (onDate d) lent = dateWritable d
 writableBy (atTime t) lent = can
-writableBy (objectId n i) lent = objectIdWritable n i
+writableBy (objectId n i) lent = objectIdWritable (identifier n i)
 
 -- the same, said and not computed (01, "Refused 12"; RFC 3629 for text)
 abbrev pub Writes : Value → List ℕ → Type 0
@@ -88,11 +61,11 @@ Writes (real x) lent = Unit {0}
 Writes (double x) lent = Unit {0}
 Writes (octetString p) lent = Unit {0}
 Writes (characterString p) lent = Text lent
-Writes (bitString unused p) lent = (unused ≤ 7) × (length lent ≡ 0 → unused ≡ 0)
+Writes (bitString unused p) lent = BitsWrite unused lent
 Writes (enumerated x) lent = Unit {0}
-Writes (onDate d) lent = (1900 ≤ d .year) × (d .year ≤ 2155)
+Writes (onDate d) lent = DateWrites d
 Writes (atTime t) lent = Unit {0}
-Writes (objectId n i) lent = (n ≤ 1023) × (i ≤ 4194303)
+Writes (objectId n i) lent = ObjectIdWrites (identifier n i)
 
 -- whether a value can be written, else 12 or 10
 unfoldable pub writableValue : Value → List ℕ → Writable

@@ -1,22 +1,28 @@
-// Application values: the twelve cases, read and written at a place of a buffer.
-mod bytes;
-mod float;
+// Application values: the twelve cases, read and written at a place of a buffer, a file to each.
+mod bits;
+mod boolean;
+mod date;
+mod integer;
+mod object_id;
+mod octets;
 mod reading;
+mod real;
 mod text;
+mod time;
 mod value;
-mod writable;
+mod value_read;
 mod writing;
 
-pub use float::double_bits;
-pub use float::double_of;
-pub use float::real_bits;
-pub use float::real_of;
-pub use reading::ValueRead;
+pub use date::Date;
+pub use object_id::ObjectId;
 pub use reading::decode;
+pub use real::double_bits;
+pub use real::double_of;
+pub use real::real_bits;
+pub use real::real_of;
+pub use time::Time;
 pub use value::ApplicationDataValue;
-pub use value::Date;
-pub use value::ObjectId;
-pub use value::Time;
+pub use value_read::ValueRead;
 pub use writing::encode;
 
 // Single bytes are read by the layer below: handed on to the layer above.

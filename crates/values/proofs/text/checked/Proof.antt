@@ -7,7 +7,7 @@ use Prim.Native.Nat.{ℕ, _-_}
 use lib.ListN.{take, drop}
 use Rattle.utf8.specs.Check.{checkOf}
 use Rattle.utf8.specs.Answer.{textOutcome, paperCheck}
-use Rattle.values.specs.Reading.{textIn}
+use Rattle.values.specs.Text.{textIn}
 use Rattle.values.proofs.text.checked.Statement.{statement}
 use Rattle.values.proofs.text.checked.Tie as tie
 

@@ -2,7 +2,6 @@
 -- Assumes nothing.
 use borrow.Author.Needs.{needs}
 use mathlib.Core.Path.{_≡_, _∙_, ap, sym}
-use Prim.Native.Nat.{_≤_}
 use lib.IntN.{ℤ}
 use mir.Syntax.{w64}
 use mir.Val.{toZ, ofZ}
@@ -12,10 +11,13 @@ use Rattle.types.specs.Writing.{can, Left, writing}
 use Rattle.numbers.specs.Integer.{signedBytes}
 use Rattle.tags.specs.Item.{itemTo, itemLentTo}
 use Rattle.tags.specs.Writing.{tagValueAllowed, tagTo}
+use Rattle.values.specs.Date.{dateOf, DateWrites}
+use Rattle.values.specs.ObjectId.{idOf, ObjectIdWrites}
 use Rattle.values.specs.Value.{valueOf}
 use Rattle.values.specs.Writing.{writableValue, valueBytes}
 use Rattle.values.specs.declared.value.ApplicationDataValue.{ApplicationDataValue}
-use Rattle.values.proofs.Fits.{date-exactly, id-exactly}
+use Rattle.values.proofs.Dates.{date-exactly}
+use Rattle.values.proofs.ObjectIds.{object-id-exactly}
 use Rattle.values.proofs.writing.write.Statement.{statement}
 use Rattle.values.proofs.writing.write.Tie as tie
 
@@ -27,15 +29,14 @@ wanted s v = let a = s .args in writing 0 can (valueBytes (valueOf v) (a .conten
 arm : (s : tie.Start) {v : ApplicationDataValue} {l : Left} → s .args .value ≡ v → l ≡ wanted s v → l ≡ wanted s (s .args .value)
 arm s e f = f ∙ ap (wanted s) (sym e)
 
--- a date that can be written has a year from 1900 to 2155
-year : (c : tie.After-value4) → (1900 ≤ c .value4 .given .0 .0 .year) × (c .value4 .given .0 .0 .year ≤ 2155)
+-- a date and an identifier that are written are such as can be
+date-can : (c : tie.After-value4) → DateWrites (dateOf (c .value4 .given .0 .0))
 unfolding writableValue
-year c = date-exactly (c .value4 .given .0 .0 .year) .0 (rw (c .value4 .given .1) at (c .before .before .before .before .pre .0))
+date-can c = date-exactly (dateOf (c .value4 .given .0 .0)) .0 (rw (c .value4 .given .1) at (c .before .before .before .before .pre .0))
 
--- an identifier that can be written has a type of ten bits and an instance of 22
-identifier : (c : tie.After-value6) → (c .value6 .given .0 .0 .«object_type» ≤ 1023) × (c .value6 .given .0 .0 .instance ≤ 4194303)
+identifier-can : (c : tie.After-value6) → ObjectIdWrites (idOf (c .value6 .given .0 .0))
 unfolding writableValue
-identifier c = id-exactly (c .value6 .given .0 .0 .«object_type») (c .value6 .given .0 .0 .instance) .0 (rw (c .value6 .given .1) at (c .before .before .before .before .pre .0))
+identifier-can c = object-id-exactly (idOf (c .value6 .given .0 .0)) .0 (rw (c .value6 .given .1) at (c .before .before .before .before .pre .0))
 
 -- a signed integer is read back from its bits as it is
 signed : tie.Need-returns-12
@@ -55,24 +56,24 @@ write-spec =
     (λ c. search needs) (λ c κs. search needs)
     (λ c. search needs) (λ c κs. search needs)
     (λ c. search needs) (λ c κs. search needs)
-    (λ c. search needs) (λ c κs. year (c .before .before))
+    (λ c. search needs) (λ c κs. date-can (c .before .before))
     (λ c. search needs) (λ c κs. search needs)
-    (λ c. search needs) (λ c κs. identifier (c .before .before))
-    (λ c. search needs) (λ c κs. search needs)
-    (λ c. search needs) (λ c κs. search needs)
+    (λ c. search needs) (λ c κs. identifier-can (c .before .before))
     (λ c. search needs) (λ c κs. search needs)
     (λ c. search needs) (λ c κs. search needs)
     (λ c. search needs) (λ c κs. search needs)
     (λ c. search needs) (λ c κs. search needs)
-    (λ c. search needs) (λ c. arm (c .before .before .before .before .before .before .before .before .before) (c .before .before .before .before .before .value .given .1) (c .before .before .boolean .ensures))
-    (λ c. search needs) (λ c. arm (c .before .before .before .before .before .before .before .before .before) (c .before .before .before .before .before .value2 .given .1) (c .before .before .real .ensures))
-    (λ c. search needs) (λ c. arm (c .before .before .before .before .before .before .before .before .before) (c .before .before .before .before .before .value3 .given .1) (c .before .before .double .ensures))
-    (λ c. search needs) (λ c. arm (c .before .before .before .before .before .before .before .before .before) (c .before .before .before .before .before .value4 .given .1) (c .before .before .date .ensures))
-    (λ c. search needs) (λ c. arm (c .before .before .before .before .before .before .before .before .before) (c .before .before .before .before .before .value5 .given .1) (c .before .before .time .ensures))
-    (λ c. search needs) (λ c. arm (c .before .before .before .before .before .before .before .before .before) (c .before .before .before .before .before .value6 .given .1) (c .before .before .object-id .ensures))
-    (λ c. search needs) (λ c. arm (c .before .before .before .before .before .before .before .before) (c .before .before .before .before .enum-told .given .1) (c .before .before .prefixed .ensures))
-    (λ c. search needs) (λ c. arm (c .before .before .before .before .before .before .before .before) (c .before .before .before .before .enum-told2 .given .1) (c .before .before .plain .ensures))
+    (λ c. search needs) (λ c κs. search needs)
+    (λ c. search needs) (λ c κs. search needs)
+    (λ c. search needs) (λ c. arm (c .before .before .before .before .before .before .before .before .before) (c .before .before .before .before .before .value .given .1) (c .before .before .write-boolean .ensures))
+    (λ c. search needs) (λ c. arm (c .before .before .before .before .before .before .before .before .before) (c .before .before .before .before .before .value2 .given .1) (c .before .before .write-real .ensures))
+    (λ c. search needs) (λ c. arm (c .before .before .before .before .before .before .before .before .before) (c .before .before .before .before .before .value3 .given .1) (c .before .before .write-double .ensures))
+    (λ c. search needs) (λ c. arm (c .before .before .before .before .before .before .before .before .before) (c .before .before .before .before .before .value4 .given .1) (c .before .before .write-date .ensures))
+    (λ c. search needs) (λ c. arm (c .before .before .before .before .before .before .before .before .before) (c .before .before .before .before .before .value5 .given .1) (c .before .before .write-time .ensures))
+    (λ c. search needs) (λ c. arm (c .before .before .before .before .before .before .before .before .before) (c .before .before .before .before .before .value6 .given .1) (c .before .before .write-object-id .ensures))
+    (λ c. search needs) (λ c. arm (c .before .before .before .before .before .before .before .before) (c .before .before .before .before .enum-told .given .1) (c .before .before .write-text .ensures))
+    (λ c. search needs) (λ c. arm (c .before .before .before .before .before .before .before .before) (c .before .before .before .before .enum-told2 .given .1) (c .before .before .write-octets .ensures))
     (λ c. search needs) (λ c. arm (c .before .before .before .before .before .before .before .before .before) (c .before .before .before .before .before .value7 .given .1) (c .before .before .encode-application-enumerated .ensures))
-    (λ c. search needs) (λ c. arm (c .before .before .before .before .before .before .before .before .before) (c .before .before .before .before .before .value8 .given .1) (c .before .before .prefixed2 .ensures))
+    (λ c. search needs) (λ c. arm (c .before .before .before .before .before .before .before .before .before) (c .before .before .before .before .before .value8 .given .1) (c .before .before .write-bits .ensures))
     (λ c. search needs) (λ c. arm (c .before .before .before .before .before .before .before .before .before) (c .before .before .before .before .before .value9 .given .1) (c .before .before .encode-application-unsigned .ensures))
     (λ c. search needs) signed)

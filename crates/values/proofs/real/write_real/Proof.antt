@@ -1,0 +1,45 @@
+-- `values::write_real` meets its contract: the content is the four bytes of the real's bits, and nothing is lent.
+-- Assumes nothing.
+use borrow.Author.Needs.{needs}
+use mathlib.Core.Path.{_∙_, ap}
+use Prim.Native.Nat.{ℕ}
+use mathlib.Core.List.{[], _++_}
+use Rattle.types.specs.Tag.{application}
+use Rattle.numbers.specs.Integer.{lowBytes}
+use Rattle.tags.specs.Item.{itemLentTo}
+use Rattle.tags.proofs.ByParts.{none-lent}
+use Rattle.values.proofs.real.write_real.Statement.{statement}
+use Rattle.values.proofs.real.write_real.Tie as tie
+
+real-bits-requires : tie.Need-real-bits-requires
+real-bits-requires c κs = search needs
+
+cast-encode-item : tie.Need-cast-encode-item
+cast-encode-item c = search needs
+
+slice-aggregate-encode-item : tie.Need-slice-aggregate-encode-item
+slice-aggregate-encode-item c = search needs
+
+encode-item-requires : tie.Need-encode-item-requires
+encode-item-requires c κs = search needs
+
+same-length : tie.Need-same-length
+same-length c = search needs
+
+returns : tie.Need-returns
+returns c =
+    let a = c .before .before .before .before .before .before .before .args in
+    c .before .before .encode-item .ensures
+    ∙ ap (λ (n : ℕ). itemLentTo 0 (application 4) (lowBytes 4 n ++ []) (a .buf .now) (a .place)) (c .before .before .before .before .before .real-bits .ensures)
+    ∙ none-lent _ _ _ _
+
+pub write-real-spec : {M : Type 1} → statement M
+write-real-spec =
+    tie.close
+    (tie.spec
+    real-bits-requires
+    cast-encode-item
+    slice-aggregate-encode-item
+    encode-item-requires
+    same-length
+    returns)

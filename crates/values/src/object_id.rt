@@ -1,0 +1,73 @@
+// Object identifiers: ten bits of type and 22 of instance.
+ghost use mathlib.Core.Path.{_≡_};
+ghost use Rattle.types.specs.Answer.{paperOutcome};
+ghost use Rattle.types.specs.Tag.{application};
+ghost use Rattle.types.specs.Writing.{paperWritten, left};
+ghost use Rattle.tags.specs.Item.{itemTo};
+ghost use Rattle.values.specs.ObjectId.{idOf, objectIdUnder, objectIdBytes, objectIdWritable, ObjectIdWrites, paperObjectId};
+ghost use Rattle.values.specs.Writing.{outcomeOf};
+use numbers::WordRead;
+use types::ApplicationTagNumber;
+use types::Outcome;
+use types::Refusal;
+use types::TagNumber;
+use types::Written;
+
+// An object identifier.
+pub struct ObjectId {
+    pub object_type: u16,
+    pub instance: u32,
+}
+
+// An object identifier and the place after it.
+pub(crate) enum ObjectIdRead {
+    ObjectId(ObjectId, usize),
+    Refused(Refusal),
+}
+
+// The object identifier of four bytes; another length is refused.
+pub(crate) fn read_object_id(len: u32, buf: &[u8], place: usize) -> ObjectIdRead
+    ensures { λ r. ⌜ paperObjectId r ≡ objectIdUnder len (now (buf .entry)) place ⌝ }
+{
+    if len != 4 {
+        return ObjectIdRead::Refused(Refusal::LengthNotAllowed(len));
+    }
+    match tags::read_four_bytes(buf, place) {
+        WordRead::Word(bytes, next) => {
+            let id = ObjectId {
+                object_type: (bytes / 4194304) as u16,
+                instance: bytes % 4194304,
+            };
+            ObjectIdRead::ObjectId(id, next)
+        }
+        WordRead::Refused(r) => ObjectIdRead::Refused(r),
+    }
+}
+
+// Whether an identifier can be written: it fits ten bits and 22.
+pub(crate) fn object_id_writable(id: ObjectId) -> Outcome
+    ensures { λ r. ⌜ paperOutcome r ≡ outcomeOf (objectIdWritable (idOf id)) ⌝ }
+{
+    if 1023 < id.object_type {
+        return Outcome::Refused(Refusal::CannotBeWritten);
+    }
+    if 4194303 < id.instance {
+        return Outcome::Refused(Refusal::CannotBeWritten);
+    }
+    Outcome::Passed
+}
+
+// Writes an identifier that can be written; nothing is lent.
+pub(crate) fn write_object_id(id: ObjectId, buf: &mut [u8], place: usize) -> Written
+    requires { ⌜ ObjectIdWrites (idOf id) ⌝ }
+    ensures { λ r. ⌜ left (paperWritten r) (now (buf .exit)) ≡ itemTo (application 12) (objectIdBytes (idOf id)) (now (buf .entry)) place ⌝ }
+{
+    tags::encode_item(
+        TagNumber::Application(ApplicationTagNumber::ObjectId),
+        id.object_type as u64 * 4194304 + id.instance as u64,
+        4,
+        &[],
+        buf,
+        place,
+    )
+}
