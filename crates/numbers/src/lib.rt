@@ -22,6 +22,7 @@ pub use reading::read_two_bytes;
 pub use writing::extend_from_slice;
 pub use writing::pattern;
 pub use writing::push;
+pub use writing::room;
 pub use writing::write_low_bytes;
 pub use writing::write_signed;
 pub use writing::write_unsigned;

@@ -11,8 +11,8 @@ use crate::integer::unsigned_length;
 use types::Refusal;
 use types::Written;
 
-// The place after a write of so many bytes, of which some may be lent, or its refusal.
-fn room(lent: usize, count: usize, buf: &[u8], place: usize) -> Written
+// The place after a write of so many bytes, so many of them lent, or why there can be none: no byte is written.
+pub fn room(lent: usize, count: usize, buf: &[u8], place: usize) -> Written
     ensures { λ r. ⌜ paperWritten r ≡ writeAnswer lent can count (now (buf .entry)) place ⌝ }
 {
     if 65535 < buf.len() {

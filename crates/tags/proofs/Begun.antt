@@ -1,18 +1,20 @@
 -- A tag whose content is to follow: what is written of it, and what is written where nothing follows.
 -- Assumes nothing.
-use mathlib.Core.Path.{_≡_, refl, ap}
+use mathlib.Core.Path.{_≡_, refl, _∙_, ap, sym}
 use mathlib.Core.Bool.{true}
-use Prim.Native.Nat.{ℕ, _+_, _-_, _≤_, _<_}
+use Prim.Native.Nat.{ℕ, _+_, _≤_}
 use native.Mathlib.Nat.{add-zero}
 use native.Mathlib.Omega.{arith}
 use mathlib.Core.List.{List, [], _∷_}
 use lib.ListN.{length, set}
 use borrow.Author.Tests.{le-ltb}
 use Rattle.types.specs.Tag.{Tag}
-use Rattle.types.specs.Answer.{accepted}
-use Rattle.types.specs.Writing.{left, can, writeAnswer, writing}
+use Rattle.types.specs.Answer.{accepted, refusal}
+use Rattle.types.specs.Writing.{left, can, settled, writeAnswer, writing}
+use Rattle.types.specs.declared.refusal.Refusal.{Refusal}
 use Rattle.tags.specs.Writing.{tagBytes, tagValueAllowed, tagTo, tagBefore}
 use Rattle.tags.specs.Held.{oneBefore}
+use Rattle.numbers.proofs.Inside.{Room, write-room}
 use Rattle.numbers.proofs.Over.{one-replaced}
 use Rattle.tags.proofs.Held.{header-short}
 
@@ -36,9 +38,14 @@ pub short-before : (t : Tag) (b content : ℕ) (xs : List ℕ) (place : ℕ) →
 unfolding tagBefore oneBefore
 short-before t b content xs place (e, f) = rw (e, f) refl
 
--- where there is room, one byte is stored
-pub one-stored : (b content : ℕ) (xs : List ℕ) (place : ℕ) → length xs ≤ 65535 → place ≤ length xs → place + (1 + content) ≤ length xs → left (accepted tt (place + 1)) (set xs place b) ≡ oneBefore b content xs place
-unfolding oneBefore writeAnswer
-one-stored b content xs place small inside room =
-    let h : place < length xs = omega arith in
-    simp (le-ltb 65535 (length xs) small, le-ltb (length xs) place inside, le-ltb (length xs) (place + (1 + content)) room) (ap (left (accepted tt (place + 1))) (one-replaced xs place b h))
+-- by the answer for the byte and what follows it: where there is room, the byte is stored
+pub one-stored : (b content : ℕ) (xs : List ℕ) (place next : ℕ) → writeAnswer 0 can (1 + content) xs place ≡ accepted tt next → left (accepted tt (place + 1)) (set xs place b) ≡ oneBefore b content xs place
+unfolding oneBefore
+one-stored b content xs place next e =
+    let r : Room (1 + content) xs place (accepted tt next) = rw e at (write-room 0 can (1 + content) xs place) in
+    ap (left (accepted tt (place + 1))) (one-replaced xs place b (omega (arith, r .1))) ∙ ap (settled (b ∷ []) xs place) (sym e)
+
+-- and where it is refused, none is
+pub one-refused : (b content : ℕ) (xs : List ℕ) (place : ℕ) (x : Refusal) → writeAnswer 0 can (1 + content) xs place ≡ refusal x → left (refusal x) xs ≡ oneBefore b content xs place
+unfolding oneBefore
+one-refused b content xs place x e = ap (settled (b ∷ []) xs place) (sym e)

@@ -1,40 +1,38 @@
--- Tags of one byte: what is held of them.
+-- Tags of one byte: by which tests they are known.
 -- Assumes nothing.
 use mathlib.Core.Path.{_≡_, refl, _∙_}
 use Prim.Native.Nat.{ℕ, _+_, _*_, _≤_}
 use native.Mathlib.Omega.{arith}
-use mathlib.Core.List.{List, [], _∷_, append-nil}
+use mathlib.Core.List.{append-nil}
 use borrow.Author.Tests.{lt-ltb, eq-eqb}
 use Rattle.types.specs.Tag.{Tag, tag, application, context, opening, closing}
-use Rattle.tags.specs.declared.header.Header.{Header}
+use Rattle.tags.specs.declared.short.Short.{Short}
+use Rattle.tags.specs.declared.short.Short.the-variants as s
 use Rattle.tags.specs.Writing.{contextBytes, tagBytes, tagValueAllowed}
-use Rattle.tags.specs.Held.{holding, OneOf, OneByte}
-
--- where nothing is held, nothing is said
-pub nothing-of : (h : Header) (bytes : List ℕ) → h .len ≡ 0 → OneOf h bytes
-nothing-of h bytes z = λ o. absurd (omega (arith, z, o))
-
-pub nothing-held : (h : Header) (t : Tag) → h .len ≡ 0 → OneByte h t
-nothing-held h t z = λ o. absurd (omega (arith, z, o))
-
-pub one-of : (h : Header) (b : ℕ) → h ≡ holding (b ∷ []) → OneOf h (b ∷ [])
-one-of h b e = λ o. rw e refl
+use Rattle.tags.specs.Held.{OneOf, OneByte, BlockByte}
 
 -- an application tag with its value in the low bits
-pub application-held : (h : Header) (n v : ℕ) → h ≡ holding ((n * 16 + v) ∷ []) → v ≤ 4 → OneByte h (tag (application n) v)
+pub application-byte : (n v : ℕ) → v ≤ 4 → OneByte (s.Byte (n * 16 + v)) (tag (application n) v)
 unfolding tagBytes tagValueAllowed
-application-held h n v e l = λ o. (rw e (simp (lt-ltb v 5 (omega arith))), refl)
+application-byte n v l = (simp (lt-ltb v 5 (omega arith)), refl)
 
 -- a context tag likewise
-pub context-held : (h : Header) (n v : ℕ) → OneOf h (contextBytes n v) → v ≤ 4 → OneByte h (tag (context n) v)
+pub context-byte : (h : Short) (n v : ℕ) → OneOf h (contextBytes n v) → v ≤ 4 → OneByte h (tag (context n) v)
 unfolding tagBytes tagValueAllowed
-context-held h n v f l = λ o. (simp (lt-ltb v 5 (omega arith)) (append-nil (contextBytes n v) ∙ f o), refl)
+context-byte (s.Byte b) n v f l = (simp (lt-ltb v 5 (omega arith)) (append-nil (contextBytes n v) ∙ f), refl)
+context-byte s.Other n v f l = tt
 
--- an opening and a closing of no value
-pub opening-held : (h : Header) (n v : ℕ) → OneOf h (contextBytes n 6) → v ≡ 0 → OneByte h (tag (opening n) v)
-unfolding tagBytes tagValueAllowed
-opening-held h n v f z = λ o. (f o, eq-eqb v 0 z)
+-- an opening and a closing, by the low bits of theirs
+pub block-byte : (h : Short) (n low v : ℕ) → OneOf h (contextBytes n low) → v ≡ 0 → BlockByte h n low v
+block-byte (s.Byte b) n low v f z = (f, z)
+block-byte s.Other n low v f z = tt
 
-pub closing-held : (h : Header) (n v : ℕ) → OneOf h (contextBytes n 7) → v ≡ 0 → OneByte h (tag (closing n) v)
+pub opening-byte : (h : Short) (n v : ℕ) → BlockByte h n 6 v → OneByte h (tag (opening n) v)
 unfolding tagBytes tagValueAllowed
-closing-held h n v f z = λ o. (f o, eq-eqb v 0 z)
+opening-byte (s.Byte b) n v (f, z) = (f, eq-eqb v 0 z)
+opening-byte s.Other n v f = tt
+
+pub closing-byte : (h : Short) (n v : ℕ) → BlockByte h n 7 v → OneByte h (tag (closing n) v)
+unfolding tagBytes tagValueAllowed
+closing-byte (s.Byte b) n v (f, z) = (f, eq-eqb v 0 z)
+closing-byte s.Other n v f = tt

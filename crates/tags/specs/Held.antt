@@ -1,14 +1,16 @@
--- About the code alone: the struct that a tag's bytes are built in, and what it holds. No promise to a caller cites this.
+-- About the code alone: the struct that a tag's bytes are built in, what it holds, a tag's byte where it has one, and the beginning of an item. No promise to a caller cites this.
 -- Assumes nothing.
 use mathlib.Core.Path.{_≡_}
 use mathlib.Core.Bool.{true}
 use Prim.Native.Nat.{ℕ, zero, suc, _+_}
-use mathlib.Core.List.{List, [], _∷_}
-use lib.ListN.{length, getD, set}
-use Rattle.types.specs.Tag.{Tag}
+use mathlib.Core.List.{List, [], _∷_, _++_}
+use lib.ListN.{length, set}
+use Rattle.types.specs.Tag.{Number, Tag, tag}
 use Rattle.types.specs.Writing.{Left, can, settled, writeAnswer}
-use Rattle.tags.specs.Writing.{tagBytes, tagValueAllowed}
+use Rattle.tags.specs.Writing.{contextBytes, tagBytes, tagValueAllowed, writableTag}
 use Rattle.tags.specs.declared.header.Header.{Header}
+use Rattle.tags.specs.declared.short.Short.{Short}
+use Rattle.tags.specs.declared.short.Short.the-variants as s
 
 -- bytes, filled up with zeros to n
 abbrev pub pad : ℕ → List ℕ → List ℕ
@@ -29,14 +31,27 @@ abbrev pub pushes : Header → List ℕ → Header
 pushes h [] = h
 pushes h (b ∷ bs) = pushes (pushed h b) bs
 
--- where one byte is held, it is these bytes
-abbrev pub OneOf : Header → List ℕ → Type 0
-OneOf h bytes = h .len ≡ 1 → bytes ≡ getD (h .bytes) 0 0 ∷ []
+-- where a byte is told, these bytes are it alone
+abbrev pub OneOf : Short → List ℕ → Type 0
+OneOf (s.Byte b) bytes = bytes ≡ b ∷ []
+OneOf s.Other bytes = Unit {0}
 
--- and the tag's, which can be written
-abbrev pub OneByte : Header → Tag → Type 0
-OneByte h t = h .len ≡ 1 → (tagBytes t ≡ getD (h .bytes) 0 0 ∷ []) × (tagValueAllowed t ≡ true)
+-- and so are the tag's, which can be written
+abbrev pub OneByte : Short → Tag → Type 0
+OneByte (s.Byte b) t = (tagBytes t ≡ b ∷ []) × (tagValueAllowed t ≡ true)
+OneByte s.Other t = Unit {0}
+
+-- and those of an opening or a closing, by its low bits
+abbrev pub BlockByte : Short → (number low value : ℕ) → Type 0
+BlockByte (s.Byte b) number low value = (contextBytes number low ≡ b ∷ []) × (value ≡ 0)
+BlockByte s.Other number low value = Unit {0}
 
 -- what writing one byte answers and leaves, where so many bytes are to follow it
 unfoldable pub oneBefore : (byte content : ℕ) → List ℕ → (place : ℕ) → Left
 oneBefore b content xs place = settled (b ∷ []) xs place (writeAnswer 0 can (1 + content) xs place)
+
+-- what writing an item's tag and the first bytes of its content answers and leaves, where so many bytes more are to follow: room is tested for all
+unfoldable pub itemBefore : (more : ℕ) → Number → List ℕ → List ℕ → (place : ℕ) → Left
+itemBefore more n first xs place =
+    let t : Tag = tag n (length first + more) in
+    settled (tagBytes t ++ first) xs place (writeAnswer 0 (writableTag t) (length (tagBytes t) + (length first + more)) xs place)

@@ -5,7 +5,7 @@ use mathlib.Core.Bool.{Bool, false}
 use mathlib.Core.List.{List}
 use lib.Dec.{ltb, eqb}
 use Rattle.types.specs.Choice.{if}
-use Rattle.types.specs.Tag.{Number, application, context, opening, closing, Tag, tag, numberOf, tagOf}
+use Rattle.types.specs.Tag.{Number, application, context, opening, closing, classOf, numberIn, Tag, tag, numberOf, tagOf}
 use Rattle.types.specs.Refusal.{tagFound}
 use Rattle.types.specs.Answer.{Answer, accepted, refused, refusal, then, Outcome, passed, stopped}
 use Rattle.numbers.specs.Reading.{byteFrom, fixedFrom}
@@ -49,22 +49,7 @@ tagFrom xs place = then (byteFrom xs place) (λ first next. tagAfter first xs ne
 
 -- one class and one number
 abbrev pub sameNumber : Number → Number → Bool
-sameNumber (application a) (application b) = eqb a b
-sameNumber (application a) (context b) = false
-sameNumber (application a) (opening b) = false
-sameNumber (application a) (closing b) = false
-sameNumber (context a) (application b) = false
-sameNumber (context a) (context b) = eqb a b
-sameNumber (context a) (opening b) = false
-sameNumber (context a) (closing b) = false
-sameNumber (opening a) (application b) = false
-sameNumber (opening a) (context b) = false
-sameNumber (opening a) (opening b) = eqb a b
-sameNumber (opening a) (closing b) = false
-sameNumber (closing a) (application b) = false
-sameNumber (closing a) (context b) = false
-sameNumber (closing a) (opening b) = false
-sameNumber (closing a) (closing b) = eqb a b
+sameNumber a b = if (eqb (classOf a) (classOf b)) (eqb (numberIn a) (numberIn b)) false
 
 -- the tag at a place, which is to have the number expected
 unfoldable pub expectedFrom : Number → List ℕ → ℕ → Answer Tag

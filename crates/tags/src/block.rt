@@ -5,7 +5,7 @@ ghost use Rattle.types.specs.Tag.{context, opening, closing, tag};
 ghost use Rattle.types.specs.Writing.{paperWritten, left};
 ghost use Rattle.tags.specs.Item.{itemTo, booleanByte};
 ghost use Rattle.tags.specs.Writing.{tagTo};
-use crate::item::encode_item;
+use crate::item::encode_low_bytes;
 use crate::writing::encode;
 use types::Tag;
 use types::TagNumber;
@@ -39,15 +39,14 @@ pub fn encode_closing_tag(tag_number: u8, buf: &mut [u8], place: usize) -> Writt
     )
 }
 
-// Writes a boolean under a context tag, as one byte of content; nothing is lent.
+// Writes a boolean under a context tag, as one byte of content.
 pub fn encode_context_bool(tag_number: u8, value: bool, buf: &mut [u8], place: usize) -> Written
     ensures { λ r. ⌜ left (paperWritten r) (now (buf .exit)) ≡ itemTo (context «tag_number») (booleanByte value ∷ []) (now (buf .entry)) place ⌝ }
 {
-    encode_item(
+    encode_low_bytes(
         TagNumber::ContextSpecific(tag_number),
         byte_of(value),
         1,
-        &[],
         buf,
         place,
     )

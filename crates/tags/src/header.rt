@@ -53,7 +53,7 @@ fn push(header: Header, byte: u8) -> Header
 }
 
 // A header of one byte.
-pub(crate) fn one_byte(byte: u8) -> Header
+fn one_byte(byte: u8) -> Header
     ensures { λ r. ⌜ r ≡ holding (byte ∷ []) ⌝ }
     ensures { λ r. ⌜ r .len ≡ 1 ⌝ }
 {

@@ -4,7 +4,7 @@ ghost use Rattle.types.specs.Tag.{context, application, applicationOf, numberOf
 ghost use Rattle.types.specs.Writing.{paperWritten, left};
 ghost use Rattle.numbers.specs.Integer.{unsignedBytes, signedBytes};
 ghost use Rattle.tags.specs.Item.{itemTo, numberUnder};
-use crate::item::encode_item;
+use crate::item::encode_low_bytes;
 use types::ApplicationTagNumber;
 use types::TagNumber;
 use types::Written;
@@ -106,29 +106,27 @@ fn number_under(name: ApplicationTagNumber, context_tag: ContextTag) -> TagNumbe
     }
 }
 
-// Writes an unsigned integer under an ordinary tag; nothing is lent.
+// Writes an unsigned integer under an ordinary tag.
 fn unsigned_under(number: TagNumber, value: u64, buf: &mut [u8], place: usize) -> Written
     ensures { λ r. ⌜ left (paperWritten r) (now (buf .exit)) ≡ itemTo (numberOf number) (unsignedBytes value) (now (buf .entry)) place ⌝ }
 {
-    encode_item(
+    encode_low_bytes(
         number,
         value,
         numbers::unsigned_length(value) as u8,
-        &[],
         buf,
         place,
     )
 }
 
-// Writes a signed integer under an ordinary tag; nothing is lent.
+// Writes a signed integer under an ordinary tag.
 fn signed_under(number: TagNumber, value: i64, buf: &mut [u8], place: usize) -> Written
     ensures { λ r. ⌜ left (paperWritten r) (now (buf .exit)) ≡ itemTo (numberOf number) (signedBytes value) (now (buf .entry)) place ⌝ }
 {
-    encode_item(
+    encode_low_bytes(
         number,
         numbers::pattern(value),
         numbers::signed_length(value) as u8,
-        &[],
         buf,
         place,
     )

@@ -20,6 +20,7 @@ pub use integer::encode_enumerated;
 pub use integer::encode_signed;
 pub use integer::encode_unsigned;
 pub use item::encode_item;
+pub use item::encode_low_bytes;
 pub use reading::TagRead;
 pub use reading::decode;
 pub use reading::decode_expected;

@@ -1,8 +1,8 @@
 // Tags read at a place of a buffer, and what is expected of them.
 ghost use mathlib.Core.Path.{_≡_};
-ghost use Prim.Native.Nat.{_≤_, _<_};
+ghost use Prim.Native.Nat.{_≤_};
 ghost use lib.ListN.{length};
-ghost use Rattle.types.specs.Tag.{applicationOf, numberOf, tagOf};
+ghost use Rattle.types.specs.Tag.{numberOf, tagOf};
 ghost use Rattle.types.specs.Answer.{paperOutcome};
 ghost use Rattle.numbers.specs.Reading.{paperWord};
 ghost use Rattle.tags.specs.Reading.{numberFrom, tagValueFrom, tagAfter, tagFrom, expectedFrom, sameNumber, expectedNumber, expectedValue, paperNumber, paperTag};
@@ -97,7 +97,10 @@ fn number_after(first: u8, buf: &[u8], place: usize) -> NumberRead
     let field = first / 16;
     let low = first % 8;
     if first / 8 % 2 == 0 {
-        return NumberRead::Number(TagNumber::Application(application(field)), place);
+        return NumberRead::Number(
+            TagNumber::Application(ApplicationTagNumber::named(field)),
+            place,
+        );
     }
     if field == 15 {
         return match numbers::read_byte(buf, place) {
@@ -142,59 +145,13 @@ fn value_after(low: u8, buf: &[u8], place: usize) -> WordRead
     WordRead::Word(value as u32, next)
 }
 
-// The application tag's name for a number below 16.
-fn application(number: u8) -> ApplicationTagNumber
-    requires { ⌜ number < 16 ⌝ }
-    ensures { λ r. ⌜ applicationOf r ≡ number ⌝ }
-{
-    match number {
-        0 => ApplicationTagNumber::Null,
-        1 => ApplicationTagNumber::Boolean,
-        2 => ApplicationTagNumber::UnsignedInt,
-        3 => ApplicationTagNumber::SignedInt,
-        4 => ApplicationTagNumber::Real,
-        5 => ApplicationTagNumber::Double,
-        6 => ApplicationTagNumber::OctetString,
-        7 => ApplicationTagNumber::CharacterString,
-        8 => ApplicationTagNumber::BitString,
-        9 => ApplicationTagNumber::Enumerated,
-        10 => ApplicationTagNumber::Date,
-        11 => ApplicationTagNumber::Time,
-        12 => ApplicationTagNumber::ObjectId,
-        13 => ApplicationTagNumber::Reserve1,
-        14 => ApplicationTagNumber::Reserve2,
-        _ => ApplicationTagNumber::Reserve3,
-    }
-}
-
 // Whether two tags have one class and number.
 fn same_number(one: TagNumber, other: TagNumber) -> bool
     ensures { λ r. ⌜ r ≡ sameNumber (numberOf one) (numberOf other) ⌝ }
 {
-    match one {
-        TagNumber::Application(a) => match other {
-            TagNumber::Application(b) => a.number() == b.number(),
-            TagNumber::ContextSpecific(_) => false,
-            TagNumber::ContextSpecificOpening(_) => false,
-            TagNumber::ContextSpecificClosing(_) => false,
-        },
-        TagNumber::ContextSpecific(a) => match other {
-            TagNumber::Application(_) => false,
-            TagNumber::ContextSpecific(b) => a == b,
-            TagNumber::ContextSpecificOpening(_) => false,
-            TagNumber::ContextSpecificClosing(_) => false,
-        },
-        TagNumber::ContextSpecificOpening(a) => match other {
-            TagNumber::Application(_) => false,
-            TagNumber::ContextSpecific(_) => false,
-            TagNumber::ContextSpecificOpening(b) => a == b,
-            TagNumber::ContextSpecificClosing(_) => false,
-        },
-        TagNumber::ContextSpecificClosing(a) => match other {
-            TagNumber::Application(_) => false,
-            TagNumber::ContextSpecific(_) => false,
-            TagNumber::ContextSpecificOpening(_) => false,
-            TagNumber::ContextSpecificClosing(b) => a == b,
-        },
+    if one.class() == other.class() {
+        one.number() == other.number()
+    } else {
+        false
     }
 }

@@ -1,94 +1,83 @@
-// Tags of one byte: what they hold, and how they are written.
+// Tags of one byte: which byte it is, and how it is written.
 ghost use mathlib.Core.Path.{_≡_};
 ghost use Prim.Native.Nat.{_<_};
-ghost use lib.ListN.{getD};
 ghost use Rattle.types.specs.Tag.{tagOf};
 ghost use Rattle.types.specs.Writing.{paperWritten, left};
-ghost use Rattle.tags.specs.Held.{OneOf, OneByte, oneBefore};
+ghost use Rattle.tags.specs.Held.{OneOf, OneByte, BlockByte, oneBefore};
 ghost use Rattle.tags.specs.Writing.{contextBytes};
-use crate::header::Header;
-use crate::header::one_byte;
-use types::Refusal;
 use types::Tag;
 use types::TagNumber;
 use types::Written;
 
-// Writes a header of one byte where there is room for it and for as many bytes of content, which are to follow.
-pub(crate) fn begin_short(header: Header, content: u32, buf: &mut [u8], place: usize) -> Written
-    ensures { λ r. ⌜ left (paperWritten r) (now (buf .exit)) ≡ oneBefore (getD (header .bytes) 0 0) content (now (buf .entry)) place ⌝ }
-{
-    if 65535 < buf.len() {
-        return Written::Refused(Refusal::BufferTooLong(buf.len()));
-    }
-    if buf.len() < place {
-        return Written::Refused(Refusal::PlacePastEnd(place));
-    }
-    let whole = 1 + content as usize;
-    if buf.len() - place < whole {
-        return Written::Refused(Refusal::NoRoom(whole));
-    }
-    let bytes = header.bytes;
-    buf[place] = bytes[0];
-    Written::To(place + 1)
+// The byte of a tag that has one; any other tag is longer, or cannot be written.
+pub(crate) enum Short {
+    Byte(u8),
+    Other,
 }
 
-// The byte of a tag that has one; none where it has more or cannot be written.
-pub(crate) fn built_short(tag: Tag) -> Header
+// Writes the byte of a tag where there is room for it and for as many bytes of content, which are to follow.
+pub(crate) fn begin_short(byte: u8, content: u32, buf: &mut [u8], place: usize) -> Written
+    ensures { λ r. ⌜ left (paperWritten r) (now (buf .exit)) ≡ oneBefore byte content (now (buf .entry)) place ⌝ }
+{
+    match numbers::room(0, 1 + content as usize, buf, place) {
+        // That place is behind the content: the tag ends before it.
+        Written::To(_) => {
+            buf[place] = byte;
+            Written::To(place + 1)
+        }
+        Written::Refused(r) => Written::Refused(r),
+    }
+}
+
+// The byte of a tag of any class.
+pub(crate) fn any_short(tag: Tag) -> Short
     ensures { λ r. ⌜ OneByte r (tagOf tag) ⌝ }
 {
     let value = tag.value;
     let number = tag.number;
     match number {
-        TagNumber::Application(_) => built_plain(tag),
-        TagNumber::ContextSpecific(_) => built_plain(tag),
-        TagNumber::ContextSpecificOpening(n) => if value == 0 {
-            in_field(n, 6)
-        } else {
-            no_byte()
-        },
-        TagNumber::ContextSpecificClosing(n) => if value == 0 {
-            in_field(n, 7)
-        } else {
-            no_byte()
-        },
+        TagNumber::Application(_) => plain_short(tag),
+        TagNumber::ContextSpecific(_) => plain_short(tag),
+        TagNumber::ContextSpecificOpening(n) => block_short(n, 6, value),
+        TagNumber::ContextSpecificClosing(n) => block_short(n, 7, value),
     }
 }
 
-// The same of a tag that neither opens nor closes; none for one that does.
-pub(crate) fn built_plain(tag: Tag) -> Header
+// The byte of a tag that neither opens nor closes.
+pub(crate) fn plain_short(tag: Tag) -> Short
     ensures { λ r. ⌜ OneByte r (tagOf tag) ⌝ }
 {
     let value = tag.value;
     let number = tag.number;
     if 4 < value {
-        return no_byte();
+        return Short::Other;
     }
     match number {
-        TagNumber::Application(name) => one_byte(name.number() * 16 + value as u8),
+        TagNumber::Application(name) => Short::Byte(name.number() * 16 + value as u8),
         TagNumber::ContextSpecific(n) => in_field(n, value as u8),
-        TagNumber::ContextSpecificOpening(_) => no_byte(),
-        TagNumber::ContextSpecificClosing(_) => no_byte(),
+        TagNumber::ContextSpecificOpening(_) => Short::Other,
+        TagNumber::ContextSpecificClosing(_) => Short::Other,
     }
 }
 
-// A context number in the field, with the low bits; no byte where it takes a second one.
-fn in_field(number: u8, low: u8) -> Header
+// The byte of an opening or a closing, which has no value.
+fn block_short(number: u8, low: u8, value: u32) -> Short
+    requires { ⌜ low < 8 ⌝ }
+    ensures { λ r. ⌜ BlockByte r number low value ⌝ }
+{
+    if 0 < value {
+        return Short::Other;
+    }
+    in_field(number, low)
+}
+
+// The byte of a context number and the low bits, where the number takes no byte of its own.
+fn in_field(number: u8, low: u8) -> Short
     requires { ⌜ low < 8 ⌝ }
     ensures { λ r. ⌜ OneOf r (contextBytes number low) ⌝ }
 {
     if number < 15 {
-        one_byte(number * 16 + 8 + low)
-    } else {
-        no_byte()
+        return Short::Byte(number * 16 + 8 + low);
     }
-}
-
-// A header of no bytes.
-fn no_byte() -> Header
-    ensures { λ r. ⌜ r .len ≡ 0 ⌝ }
-{
-    Header {
-        bytes: [0, 0, 0, 0, 0, 0, 0],
-        len: 0,
-    }
+    Short::Other
 }

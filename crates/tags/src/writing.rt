@@ -4,9 +4,10 @@ ghost use Rattle.types.specs.Tag.{tagOf};
 ghost use Rattle.types.specs.Writing.{paperWritten, left};
 ghost use Rattle.tags.specs.Writing.{tagValueAllowed, tagTo, tagBefore};
 use crate::header::built;
+use crate::short::Short;
+use crate::short::any_short;
 use crate::short::begin_short;
-use crate::short::built_plain;
-use crate::short::built_short;
+use crate::short::plain_short;
 use types::Refusal;
 use types::Tag;
 use types::TagNumber;
@@ -16,14 +17,9 @@ use types::Written;
 pub fn encode(tag: Tag, buf: &mut [u8], place: usize) -> Written
     ensures { λ r. ⌜ left (paperWritten r) (now (buf .exit)) ≡ tagTo (tagOf tag) (now (buf .entry)) place ⌝ }
 {
-    let header = built_short(tag);
-    let len = header.len;
-    if len == 1 {
-        return begin_short(header, 0, buf, place);
-    }
-    match begin_long(tag, 0, buf, place) {
-        Written::To(next) => Written::To(next),
-        Written::Refused(r) => Written::Refused(r),
+    match any_short(tag) {
+        Short::Byte(byte) => begin_short(byte, 0, buf, place),
+        Short::Other => begin_long(tag, 0, buf, place),
     }
 }
 
@@ -31,14 +27,9 @@ pub fn encode(tag: Tag, buf: &mut [u8], place: usize) -> Written
 pub fn begin(tag: Tag, content: u32, buf: &mut [u8], place: usize) -> Written
     ensures { λ r. ⌜ left (paperWritten r) (now (buf .exit)) ≡ tagBefore (tagOf tag) content (now (buf .entry)) place ⌝ }
 {
-    let header = built_plain(tag);
-    let len = header.len;
-    if len == 1 {
-        return begin_short(header, content, buf, place);
-    }
-    match begin_long(tag, content, buf, place) {
-        Written::To(next) => Written::To(next),
-        Written::Refused(r) => Written::Refused(r),
+    match plain_short(tag) {
+        Short::Byte(byte) => begin_short(byte, content, buf, place),
+        Short::Other => begin_long(tag, content, buf, place),
     }
 }
 

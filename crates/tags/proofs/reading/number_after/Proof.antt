@@ -1,8 +1,9 @@
 -- `tags::number_after` meets its contract: at each return the tests that led there say which case of `numberFrom` holds.
 -- Assumes nothing.
 use borrow.Author.Needs.{needs}
-use mathlib.Core.Path.{sym, ap, _∙_}
-use Prim.Native.Nat.{_<_}
+use mathlib.Core.Path.{_≡_, sym, ap, _∙_}
+use Prim.Native.Nat.{ℕ, _%_, _<_}
+use native.Mathlib.Nat.{mod-eq-of-lt}
 use native.Mathlib.Omega.{arith}
 use borrow.Author.Tests.{lt-ltb, eq-eqb, ne-eqb}
 use Rattle.numbers.specs.Reading.{paperByte}
@@ -11,12 +12,15 @@ use Rattle.tags.specs.Reading.{numberFrom}
 use Rattle.tags.proofs.reading.number_after.Statement.{statement}
 use Rattle.tags.proofs.reading.number_after.Tie as tie
 
-application-requires : tie.Need-application-requires
-application-requires c κs = search needs
+named-requires : tie.Need-named-requires
+named-requires c κs = search needs
 
 returns : tie.Need-returns
 unfolding numberFrom
-returns c = simp (eq-eqb _ _ (c .before .if1 .taken), c .application .ensures)
+returns c =
+    let n : ℕ = numberField (c .before .before .before .args .first) in
+    let h : n % 16 ≡ n = mod-eq-of-lt (omega arith) in
+    simp (eq-eqb _ _ (c .before .if1 .taken), c .named .ensures, h)
 
 read-byte-requires : tie.Need-read-byte-requires
 read-byte-requires c κs = search needs
@@ -48,4 +52,4 @@ unfolding numberFrom
 returns-6 c = let h : numberField (c .before .before .before .before .before .args .first) < 15 = omega arith in simp (ne-eqb _ _ (c .before .before .before .if1 .left), lt-ltb _ _ h, ne-eqb _ _ (c .before .if3 .left), ne-eqb _ _ (c .if4 .left))
 
 pub number-after-spec : {M : Type 1} → statement M
-number-after-spec = tie.close (tie.spec application-requires returns read-byte-requires enum-known-number enum-known-r returns-2 returns-3 returns-4 returns-5 returns-6)
+number-after-spec = tie.close (tie.spec named-requires returns read-byte-requires enum-known-number enum-known-r returns-2 returns-3 returns-4 returns-5 returns-6)
