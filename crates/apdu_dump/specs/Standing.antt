@@ -6,7 +6,7 @@ use mathlib.Core.List.{List}
 use Prim.Native.Nat.{ℕ, _+_, _≤_}
 use lib.ListN.{length}
 use Rattle.types.specs.Writing.{over}
-use Rattle.dump.specs.Lines.{keptOf}
+use Rattle.lines.specs.Lines.{mostKept, keptOf}
 use Rattle.dump.specs.Stream.{Calls}
 use Rattle.apdu_dump.specs.declared.Got.{Got}
 use Rattle.apdu_dump.specs.declared.Got.the-variants as g
@@ -23,12 +23,12 @@ Inside g.Failed kept room = Unit {0}
 
 -- of so many bytes read, each line has one at least; the text that waits is inside its buffer
 abbrev pub Numbered : Texts → ℕ → ℕ → ℕ → Type 0
-Numbered (x.Put from number waiting) first read room = (number ≤ first + read) × (waiting ≤ room)
+Numbered (x.Put start number waiting) first read room = (number ≤ first + read) × (waiting ≤ room)
 Numbered x.Failed first read room = Unit {0}
 
 -- what is kept is short, and a read has no more lines than bytes
 abbrev pub Goes : Turn → ℕ → ℕ → Type 0
-Goes (t.On kept number) first read = (kept ≤ 2953) × (number ≤ first + read)
+Goes (t.On kept number) first read = (kept ≤ mostKept) × (number ≤ first + read)
 Goes t.Ended first read = Unit {0}
 
 -- calls of `put_line` as `Calls` has them, from the first line of what was read to a place and the number of the line there
@@ -37,7 +37,7 @@ pub record Made (xs : List ℕ) (ended : Bool) (first last count : ℕ) : Type 0
   pub calls : Calls xs ended 0 first text last count
 
 abbrev pub Makes : Texts → List ℕ → Bool → ℕ → Type 0
-Makes (x.Put from number waiting) xs ended first = Made xs ended first from number
+Makes (x.Put start number waiting) xs ended first = Made xs ended first start number
 Makes x.Failed xs ended first = Unit {0}
 
 -- such calls, and then `keep` on the same bytes from that place on, as `Reading` has it of a piece

@@ -2,9 +2,11 @@
 ghost use mathlib.Core.Path.{_≡_};
 ghost use Prim.Native.Nat.{_+_, _≤_, _<_};
 ghost use lib.ListN.{length};
+ghost use Rattle.lines.specs.Lines.{mostKept};
+ghost use Rattle.dump.specs.Room.{textRoom};
 ghost use Rattle.apdu_dump.specs.Standing.{Inside, Numbered, Makes, Goes, Takes};
 use dump::LinePut;
-use dump::MOST_BYTES;
+use lines::MOST_BYTES;
 
 // The most reads: more than any run makes, since nothing says that the input ends, and so few that the lines can be numbered.
 const MOST_READS: u64 = 70368744177664;
@@ -22,7 +24,7 @@ enum Got {
 enum Texts {
     // All are put: where the line that has not ended begins, its number, and how much text waits to be written.
     Put {
-        from: usize,
+        start: usize,
         number: u64,
         waiting: usize,
     },
@@ -80,17 +82,17 @@ fn put_lines(
     frame: &mut [u8; MOST_BYTES],
     out: &mut [u8],
 ) -> Texts
-    requires { ⌜ (86016 ≤ length (now out)) × (first + length (now buf) < 18446744073709551616) ⌝ }
+    requires { ⌜ (textRoom ≤ length (now out)) × (first + length (now buf) < 18446744073709551616) ⌝ }
     ensures { λ r. ⌜ Numbered r first (length (now (buf .entry))) (length (now (out .entry))) ⌝ }
     ensures { λ r. ⌜ Makes r (now (buf .entry)) ended first ⌝ }
 {
-    let mut from = 0;
+    let mut start = 0;
     let mut number = first;
     let mut waiting = 0;
-    while from < buf.len() {
-        match dump::put_line(buf, from, ended, number, frame, out, waiting) {
+    while start < buf.len() {
+        match dump::put_line(buf, start, ended, number, frame, out, waiting) {
             LinePut::Put { next, place } => {
-                from = next;
+                start = next;
                 number += 1;
                 waiting = place;
                 continue;
@@ -106,7 +108,7 @@ fn put_lines(
         }
     }
     Texts::Put {
-        from,
+        start,
         number,
         waiting,
     }
@@ -120,13 +122,13 @@ fn take_lines(
     frame: &mut [u8; MOST_BYTES],
     out: &mut [u8],
 ) -> Turn
-    requires { ⌜ (86016 ≤ length (now out)) × (number + length (now buf) < 18446744073709551616) ⌝ }
+    requires { ⌜ (textRoom ≤ length (now out)) × (number + length (now buf) < 18446744073709551616) ⌝ }
     ensures { λ r. ⌜ Goes r number (length (now (buf .entry))) ⌝ }
     ensures { λ r. ⌜ Takes r (now (buf .entry)) number (now (buf .exit)) ⌝ }
 {
     match put_lines(buf, ended, number, frame, out) {
         Texts::Put {
-            from,
+            start,
             number: next,
             waiting,
         } => {
@@ -137,7 +139,7 @@ fn take_lines(
                 return Turn::Ended;
             }
             Turn::On {
-                kept: dump::keep(buf, from),
+                kept: lines::keep(buf, start),
                 number: next,
             }
         }
@@ -153,7 +155,7 @@ fn take_turn(
     frame: &mut [u8; MOST_BYTES],
     out: &mut [u8],
 ) -> Turn
-    requires { ⌜ (65536 ≡ length (now buf)) × (86016 ≤ length (now out)) × (kept ≤ 2953) × (number < 9223372036854775808) ⌝ }
+    requires { ⌜ (65536 ≡ length (now buf)) × (textRoom ≤ length (now out)) × (kept ≤ mostKept) × (number < 9223372036854775808) ⌝ }
     ensures { λ r. ⌜ Goes r number 65536 ⌝ }
 {
     match read_more(buf, kept) {
@@ -168,7 +170,7 @@ fn take_turn(
 
 // Takes turns until the input ends, or a read or a write fails.
 fn run(buf: &mut [u8], frame: &mut [u8; MOST_BYTES], out: &mut [u8])
-    requires { ⌜ (65536 ≡ length (now buf)) × (86016 ≤ length (now out)) ⌝ }
+    requires { ⌜ (65536 ≡ length (now buf)) × (textRoom ≤ length (now out)) ⌝ }
 {
     let mut kept = 0;
     let mut number: u64 = 1;

@@ -3,7 +3,7 @@
 use mathlib.Core.Path.{_≡_, refl, ap}
 use Rattle.types.specs.Refusal.{row}
 use Rattle.types.proofs.Single.{told-apart, programRefusal, refusal-back}
-use Rattle.dump.specs.Lines.{LineAnswer, textPut, noneEnds, notPut, paperPut}
+use Rattle.dump.specs.Put.{LineAnswer, textPut, noneEnds, notPut, paperPut}
 use Rattle.dump.specs.declared.line.LinePut.{LinePut}
 use Rattle.dump.specs.declared.line.LinePut.the-variants as p
 

@@ -1,38 +1,20 @@
 -- The text of a frame (document 01, "The program"): a header line, a line for each tag accepted, and a last line.
 -- Assumes nothing.
-use mathlib.Core.Bool.{Bool, true, false}
 use mathlib.Core.List.{List, [], _∷_, _++_}
 use Prim.Native.Nat.{ℕ}
 use lib.ListN.{length}
 use Rattle.types.specs.Choice.{if}
 use Rattle.types.specs.Tag.{Number, application, context, opening, closing, Tag}
 use Rattle.types.specs.Answer.{Answer, accepted, refused, Outcome, passed, stopped}
-use Rattle.headers.specs.Header.{Kind, request, simple, complex, segment, FieldValue, nibbles, number, choice, Header}
+use Rattle.headers.specs.Header.{Header, rowOf, fieldNumbers}
 use Rattle.headers.specs.Reading.{headerFrom}
 use Rattle.walk.specs.Walk.{Seen, Walk, walkFrom}
-use Rattle.dump.specs.Text.{decimal, line}
-use Rattle.dump.specs.Letters.{requestWord, simpleWord, complexWord, segmentWord, applicationWord, contextWord, openWord, closeWord, okWord, refusedWord}
+use Rattle.text.specs.Text.{decimal, decimals, line}
+use Rattle.dump.specs.Words.{applicationWord, contextWord, openWord, closeWord, okWord, refusedWord}
 
--- the word of each kind
-abbrev pub kindWord : Kind → List ℕ
-kindWord request = requestWord
-kindWord simple = simpleWord
-kindWord complex = complexWord
-kindWord segment = segmentWord
-
--- the fields of a header, in order
-abbrev pub fieldWords : List FieldValue → List (List ℕ)
-fieldWords [] = []
-fieldWords (nibbles a b ∷ vs) = decimal a ∷ decimal b ∷ fieldWords vs
-fieldWords (number n ∷ vs) = decimal n ∷ fieldWords vs
-fieldWords (choice c ∷ vs) = decimal c ∷ fieldWords vs
-
-abbrev pub headerWords : Header → List (List ℕ)
-headerWords h = kindWord (h .kind) ∷ fieldWords (h .fields)
-
--- frame number, kind, fields
+-- frame number, the word of the header's kind, its fields in order
 unfoldable pub headerLine : ℕ → Header → List ℕ
-headerLine frame h = line (decimal frame ∷ headerWords h)
+headerLine frame h = line (decimal frame ∷ rowOf (h .kind) .word ∷ decimals (fieldNumbers (h .fields)))
 
 -- the word of its class, or that it opens or closes a block, the tag's number, and its value, which an opening and a closing do not have
 abbrev pub wordsBy : Number → ℕ → List (List ℕ)
@@ -68,17 +50,10 @@ outcomeLine frame tags (stopped n c) = refusedLine frame n
 abbrev pub walkText : ℕ → Walk → List ℕ
 walkText frame w = tagLines frame (w .tags) ++ outcomeLine frame (length (w .tags)) (w .outcome)
 
--- simple and segment acknowledgements have no walk
-abbrev pub walks : Kind → Bool
-walks request = true
-walks simple = false
-walks complex = true
-walks segment = false
-
--- a refused header has no header line
+-- a refused header has no header line; not every kind has a walk
 abbrev pub headedText : ℕ → List ℕ → Answer Header → List ℕ
 headedText frame bytes (accepted h body) =
-    headerLine frame h ++ if (walks (h .kind)) (walkText frame (walkFrom bytes body)) (okLine frame 0)
+    headerLine frame h ++ if (rowOf (h .kind) .walks) (walkText frame (walkFrom bytes body)) (okLine frame 0)
 headedText frame bytes (refused n c) = refusedLine frame n
 
 -- the text of a frame of these bytes, by its number

@@ -1,7 +1,5 @@
-pub mod Letters
-pub mod Text
+pub mod Words
+pub mod Room
 pub mod Frame
-pub mod Open
-pub mod Hexadecimal
-pub mod Lines
+pub mod Put
 pub mod Stream

@@ -1,34 +1,15 @@
--- The lines of a whole input (document 01, "The program"), its text, and a reading of it piece by piece by calls of `put_line` and `keep`.
+-- The text of a whole input (document 01, "The program"), and a reading of it piece by piece by calls of `put_line` and `keep`.
 -- Assumes nothing.
 use mathlib.Core.Path.{_≡_}
 use mathlib.Core.Bool.{Bool, true, false}
 use mathlib.Core.List.{List, [], _∷_, _++_}
 use Prim.Native.Nat.{ℕ, _+_, _-_}
-use lib.Dec.{eqb}
 use lib.ListN.{length, take, drop}
-use Rattle.types.specs.Choice.{if}
 use Rattle.types.specs.Refusal.{amount}
-use Rattle.dump.specs.Hexadecimal.{textOf}
-use Rattle.dump.specs.Lines.{textPut, noneEnds, notPut, lineLeft, putFrom, keptOf}
-
--- the lines that a newline ends, where some of the first stands before the bytes already
-abbrev pub wholeOn : List ℕ → List ℕ → List (List ℕ)
-wholeOn line [] = []
-wholeOn line (b ∷ bs) = if (eqb b 10) (line ∷ wholeOn [] bs) (wholeOn (line ++ (b ∷ [])) bs)
-
--- and what stands behind the last newline
-abbrev pub restOn : List ℕ → List ℕ → List ℕ
-restOn line [] = line
-restOn line (b ∷ bs) = if (eqb b 10) (restOn [] bs) (restOn (line ++ (b ∷ [])) bs)
-
--- which is a line too, if it is not empty
-abbrev pub lastOf : List ℕ → List (List ℕ)
-lastOf [] = []
-lastOf (b ∷ bs) = (b ∷ bs) ∷ []
-
--- the lines of bytes, of which the last counts only where the input has ended
-abbrev pub linesBy : Bool → List ℕ → List (List ℕ)
-linesBy ended bytes = wholeOn [] bytes ++ if ended (lastOf (restOn [] bytes)) []
+use Rattle.lines.specs.Lines.{keptOf}
+use Rattle.lines.specs.Input.{linesBy}
+use Rattle.dump.specs.Room.{textRoom}
+use Rattle.dump.specs.Put.{textOf, textPut, noneEnds, notPut, lineLeft, putFrom}
 
 -- the texts of lines that are numbered from there on
 abbrev pub texts : ℕ → List (List ℕ) → List ℕ
@@ -42,14 +23,14 @@ dump ended input = texts 1 (linesBy ended input)
 -- calls of `put_line` over what was read, from a place on and with the number of the line there, until nothing is left or no line ends:
 -- the text that they put, the place that they come to, and the number of the line there.
 -- The buffer that the text is put into may be another one at each call; a call refused for want of room is made again.
-pub data Calls (xs : List ℕ) (ended : Bool) : (from number : ℕ) (text : List ℕ) (last count : ℕ) → Type 0 where
+pub data Calls (xs : List ℕ) (ended : Bool) : (start number : ℕ) (text : List ℕ) (last count : ℕ) → Type 0 where
   nothingLeft : {number : ℕ} → Calls xs ended (length xs) number [] (length xs) number
-  noLineEnds : {from number : ℕ} (out : List ℕ) (place : ℕ) → lineLeft noneEnds out ≡ putFrom ended number xs from out place
-      → Calls xs ended from number [] from number
-  noRoom : {from number last count : ℕ} {text : List ℕ} (out : List ℕ) (place : ℕ) → lineLeft (notPut 13 (amount 86016)) out ≡ putFrom ended number xs from out place
-      → Calls xs ended from number text last count → Calls xs ended from number text last count
-  oneLine : {from number last count : ℕ} {text : List ℕ} (out out′ : List ℕ) (place to after : ℕ) → lineLeft (textPut to after) out′ ≡ putFrom ended number xs from out place
-      → Calls xs ended to (number + 1) text last count → Calls xs ended from number (take (after - place) (drop place out′) ++ text) last count
+  noLineEnds : {start number : ℕ} (out : List ℕ) (place : ℕ) → lineLeft noneEnds out ≡ putFrom ended number xs start out place
+      → Calls xs ended start number [] start number
+  noRoom : {start number last count : ℕ} {text : List ℕ} (out : List ℕ) (place : ℕ) → lineLeft (notPut 13 (amount textRoom)) out ≡ putFrom ended number xs start out place
+      → Calls xs ended start number text last count → Calls xs ended start number text last count
+  oneLine : {start number last count : ℕ} {text : List ℕ} (out out′ : List ℕ) (place to after : ℕ) → lineLeft (textPut to after) out′ ≡ putFrom ended number xs start out place
+      → Calls xs ended to (number + 1) text last count → Calls xs ended start number (take (after - place) (drop place out′) ++ text) last count
 
 -- a reading of pieces: behind what is kept comes a piece, the lines that end are put, and `keep` keeps what is left;
 -- where the input has ended the last line is put, and where a read fails it is not

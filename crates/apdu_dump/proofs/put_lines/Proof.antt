@@ -6,7 +6,7 @@ use mathlib.Core.Path.{_≡_, refl, _∙_, ap, sym}
 use mathlib.Core.List.{List}
 use Prim.Native.Nat.{ℕ, _+_, _-_, _≤_, min}
 use lib.ListN.{length}
-use Rattle.dump.specs.Lines.{lineLeft, paperPut}
+use Rattle.dump.specs.Put.{lineLeft, paperPut}
 use Rattle.dump.specs.declared.line.LinePut.{LinePut}
 use Rattle.dump.proofs.Placed.{placed, moves-on, stays-inside, refused-for-room}
 use Rattle.apdu_dump.proofs.Led.{Leads, first-leads, put-leads, room-leads, all-made, none-made}
@@ -14,10 +14,10 @@ use Rattle.apdu_dump.proofs.put_lines.Statement.{statement}
 use Rattle.apdu_dump.proofs.put_lines.Tie as tie
 
 abbrev Inv-loop : tie.InvT-loop
-Inv-loop buf ended first frame₀ out₀ from₀ number₀ waiting₀ frame out from number waiting = (from ≤ length buf) × (number ≤ first + from) × (waiting ≤ length out) × (length out ≡ length out₀) × Leads buf ended first from number
+Inv-loop buf ended first frame₀ out₀ start₀ number₀ waiting₀ frame out start number waiting = (start ≤ length buf) × (number ≤ first + start) × (waiting ≤ length out) × (length out ≡ length out₀) × Leads buf ended first start number
 
 abbrev μ-loop : tie.MeasureT-loop
-μ-loop buf ended first frame₀ out₀ from₀ number₀ waiting₀ frame out from number waiting = length buf - from + (length buf - from) + min waiting 1
+μ-loop buf ended first frame₀ out₀ start₀ number₀ waiting₀ frame out start number waiting = length buf - start + (length buf - start) + min waiting 1
 
 loop-holds : tie.Need-loop-holds Inv-loop μ-loop
 loop-holds c = let a = c .before .before .args in (omega arith, omega arith, omega arith, refl, first-leads (a .buf .now) (a .ended) (a .first))
@@ -37,7 +37,7 @@ loop-less c =
     let l = c .before .before .before .before .before .before .before .before .before .loop in
     let call = c .before .before .before .before .before .put-line in
     let out : List ℕ = call .last .1 .1 .1 .1 .1 .0 in
-    let p = placed (a .ended) (l .number) (a .buf .now) (l .from) (l .out) (l .waiting) (c .before .next .given .0 .0) (c .before .next .given .0 .1 .0) out (ap (λ (r : LinePut). lineLeft (paperPut r) out) (sym (c .before .next .given .1)) ∙ call .ensures .0) in
+    let p = placed (a .ended) (l .number) (a .buf .now) (l .start) (l .out) (l .waiting) (c .before .next .given .0 .0) (c .before .next .given .0 .1 .0) out (ap (λ (r : LinePut). lineLeft (paperPut r) out) (sym (c .before .next .given .1)) ∙ call .ensures .0) in
     let m = moves-on p in
     let i = stays-inside p (omega arith) in
     omega (arith, m .0, m .1)
@@ -49,10 +49,10 @@ loop-again c =
     let call = c .before .before .before .before .before .put-line in
     let out : List ℕ = call .last .1 .1 .1 .1 .1 .0 in
     let e = ap (λ (r : LinePut). lineLeft (paperPut r) out) (sym (c .before .next .given .1)) ∙ call .ensures .0 in
-    let p = placed (a .ended) (l .number) (a .buf .now) (l .from) (l .out) (l .waiting) (c .before .next .given .0 .0) (c .before .next .given .0 .1 .0) out e in
+    let p = placed (a .ended) (l .number) (a .buf .now) (l .start) (l .out) (l .waiting) (c .before .next .given .0 .0) (c .before .next .given .0 .1 .0) out e in
     let m = moves-on p in
     let i = stays-inside p (omega arith) in
-    (omega (arith, m .1), omega (arith, m .0), omega (arith, i), omega arith, put-leads (a .buf .now) (a .ended) (a .first) (l .from) (l .number) (l .inv .4) (l .out) out (l .waiting) (c .before .next .given .0 .0) (c .before .next .given .0 .1 .0) e)
+    (omega (arith, m .1), omega (arith, m .0), omega (arith, i), omega arith, put-leads (a .buf .now) (a .ended) (a .first) (l .start) (l .number) (l .inv .4) (l .out) out (l .waiting) (c .before .next .given .0 .0) (c .before .next .given .0 .1 .0) e)
 
 enum-told : tie.Need-enum-told Inv-loop μ-loop
 enum-told c = search needs
@@ -75,7 +75,7 @@ loop-less-2 c =
     let l = c .before .before .before .before .before .before .before .before .before .before .before .loop in
     let call = c .before .before .before .before .before .before .before .put-line in
     let out : List ℕ = call .last .1 .1 .1 .1 .1 .0 in
-    let f = refused-for-room (a .ended) (l .number) (a .buf .now) (l .from) (l .out) (l .waiting) _ _ out (ap (λ (r : LinePut). lineLeft (paperPut r) out) (sym (c .before .before .before .enum-told2 .given .1)) ∙ call .ensures .0) (omega arith) (omega arith) in
+    let f = refused-for-room (a .ended) (l .number) (a .buf .now) (l .start) (l .out) (l .waiting) _ _ out (ap (λ (r : LinePut). lineLeft (paperPut r) out) (sym (c .before .before .before .enum-told2 .given .1)) ∙ call .ensures .0) (omega arith) (omega arith) in
     omega (arith, f)
 
 loop-again-2 : tie.Need-loop-again-2 Inv-loop μ-loop
@@ -84,8 +84,8 @@ loop-again-2 c =
     let l = c .before .before .before .before .before .before .before .before .before .before .before .loop in
     let call = c .before .before .before .before .before .before .before .put-line in
     let out : List ℕ = call .last .1 .1 .1 .1 .1 .0 in
-    let f = refused-for-room (a .ended) (l .number) (a .buf .now) (l .from) (l .out) (l .waiting) _ _ out (ap (λ (r : LinePut). lineLeft (paperPut r) out) (sym (c .before .before .before .enum-told2 .given .1)) ∙ call .ensures .0) (omega arith) (omega arith) in
-    (omega arith, omega arith, omega arith, omega arith, room-leads (a .buf .now) (a .ended) (a .first) (l .from) (l .number) (l .inv .4) (l .out) (l .waiting) (omega arith) (omega arith) f)
+    let f = refused-for-room (a .ended) (l .number) (a .buf .now) (l .start) (l .out) (l .waiting) _ _ out (ap (λ (r : LinePut). lineLeft (paperPut r) out) (sym (c .before .before .before .enum-told2 .given .1)) ∙ call .ensures .0) (omega arith) (omega arith) in
+    (omega arith, omega arith, omega arith, omega arith, room-leads (a .buf .now) (a .ended) (a .first) (l .start) (l .number) (l .inv .4) (l .out) (l .waiting) (omega arith) (omega arith) f)
 
 same-length-2 : tie.Need-same-length-2 Inv-loop μ-loop
 same-length-2 c = search needs
@@ -94,7 +94,7 @@ returns-2 : tie.Need-returns-2 Inv-loop μ-loop
 returns-2 c =
     let a = c .before .before .before .before .args in
     let l = c .before .loop in
-    ((omega arith, omega arith), all-made (a .buf .now) (a .ended) (a .first) (l .from) (l .number) (l .inv .4) (omega arith))
+    ((omega arith, omega arith), all-made (a .buf .now) (a .ended) (a .first) (l .start) (l .number) (l .inv .4) (omega arith))
 
 same-length-3 : tie.Need-same-length-3 Inv-loop μ-loop
 same-length-3 c = search needs
@@ -105,7 +105,7 @@ returns-3 c =
     let l = c .before .before .before .before .before .before .before .before .loop in
     let call = c .before .before .before .before .put-line in
     let out : List ℕ = call .last .1 .1 .1 .1 .1 .0 in
-    ((omega arith, omega arith), none-made (a .buf .now) (a .ended) (a .first) (l .from) (l .number) (l .inv .4) (l .out) out (l .waiting) (ap (λ (r : LinePut). lineLeft (paperPut r) out) (sym (c .enum-told .given .1)) ∙ call .ensures .0) (omega arith) (omega arith))
+    ((omega arith, omega arith), none-made (a .buf .now) (a .ended) (a .first) (l .start) (l .number) (l .inv .4) (l .out) out (l .waiting) (ap (λ (r : LinePut). lineLeft (paperPut r) out) (sym (c .enum-told .given .1)) ∙ call .ensures .0) (omega arith) (omega arith))
 
 pub put-lines-spec : {M : Type 1} → statement M
 put-lines-spec =

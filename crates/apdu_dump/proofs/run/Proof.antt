@@ -5,11 +5,12 @@ use native.Mathlib.Omega.{arith}
 use mathlib.Core.Path.{_≡_}
 use Prim.Native.Nat.{_+_, _*_, _≤_}
 use lib.ListN.{length}
+use Rattle.lines.specs.Lines.{mostKept}
 use Rattle.apdu_dump.proofs.run.Statement.{statement}
 use Rattle.apdu_dump.proofs.run.Tie as tie
 
 abbrev Inv-loop : tie.InvT-loop
-Inv-loop buf₀ frame₀ out₀ kept₀ number₀ reads₀ buf frame out kept number reads = (length buf ≡ length buf₀) × (length out ≡ length out₀) × (kept ≤ 2953) × (number + reads * 65536 ≤ 4611686018427387905)
+Inv-loop buf₀ frame₀ out₀ kept₀ number₀ reads₀ buf frame out kept number reads = (length buf ≡ length buf₀) × (length out ≡ length out₀) × (kept ≤ mostKept) × (number + reads * 65536 ≤ 4611686018427387905)
 
 abbrev μ-loop : tie.MeasureT-loop
 μ-loop buf₀ frame₀ out₀ kept₀ number₀ reads₀ buf frame out kept number reads = reads

@@ -2,18 +2,18 @@
 -- Assumes nothing.
 use borrow.Author.Needs.{needs}
 use native.Mathlib.Omega.{arith}
-use Rattle.dump.proofs.Moved.{kept-short}
+use Rattle.lines.proofs.Moved.{kept-short}
 use Rattle.apdu_dump.proofs.take_lines.Statement.{statement}
 use Rattle.apdu_dump.proofs.take_lines.Tie as tie
 
 put-lines-requires : tie.Need-put-lines-requires
 put-lines-requires c κs = search needs
 
-enum-known-from : tie.Need-enum-known-from
-enum-known-from c = search needs
+enum-known-start : tie.Need-enum-known-start
+enum-known-start c = search needs
 
 send-requires : tie.Need-send-requires
-send-requires c κs = let g = rw (c .before .before .from .given .1) at (c .before .before .before .before .before .before .put-lines .ensures .0) in omega (arith, g .1)
+send-requires c κs = let g = rw (c .before .before .start .given .1) at (c .before .before .before .before .before .before .put-lines .ensures .0) in omega (arith, g .1)
 
 same-length : tie.Need-same-length
 same-length c = search needs
@@ -48,8 +48,8 @@ same-length-6 c = search needs
 returns-3 : tie.Need-returns-3
 returns-3 c =
     let a = c .before .before .before .before .before .before .before .before .before .before .before .before .before .before .before .before .before .before .before .args in
-    let g = rw (c .before .before .before .before .before .before .before .before .before .from .given .1) at (c .before .before .before .before .before .before .before .before .before .before .before .before .before .put-lines .ensures .0) in
-    let m = rw (c .before .before .before .before .before .before .before .before .before .from .given .1, c .before .before .before .before .if2 .left) at (c .before .before .before .before .before .before .before .before .before .before .before .before .before .put-lines .ensures .1) in
+    let g = rw (c .before .before .before .before .before .before .before .before .before .start .given .1) at (c .before .before .before .before .before .before .before .before .before .before .before .before .before .put-lines .ensures .0) in
+    let m = rw (c .before .before .before .before .before .before .before .before .before .start .given .1, c .before .before .before .before .if2 .left) at (c .before .before .before .before .before .before .before .before .before .before .before .before .before .put-lines .ensures .1) in
     let k = c .before .before .keep .ensures in
     ((kept-short _ _ _ (k .0), omega (arith, g .0)), record { last = _; made = m; many = k .0; bytes = k .1 })
 
@@ -67,7 +67,7 @@ take-lines-spec =
     tie.close
     (tie.spec
     put-lines-requires
-    enum-known-from
+    enum-known-start
     send-requires
     same-length
     same-length-2

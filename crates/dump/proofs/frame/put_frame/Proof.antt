@@ -1,11 +1,10 @@
 -- `dump::put_frame` meets its contract: in each arm the header's answer is known; its line is put, and behind it the walk's text or that there are no tags.
 -- Assumes nothing.
-use Rattle.dump.proofs.Puts.{then}
-use Rattle.dump.specs.Frame.{frameText}
 use Rattle.headers.specs.Reading.{paperHeader}
 use Rattle.headers.specs.Header.{headerOf}
 use Rattle.headers.proofs.Exactly.{moves-on}
-use Rattle.types.specs.Answer.{refusal}
+use Rattle.text.proofs.Puts.{then}
+use Rattle.dump.specs.Frame.{frameText}
 use native.Mathlib.Omega.{arith}
 use mathlib.Core.Path.{sym, ap, _∙_}
 use borrow.Author.Needs.{needs}
@@ -27,7 +26,7 @@ has-tags-requires c κs = search needs
 put-walk-requires : tie.Need-put-walk-requires
 put-walk-requires c κs = let g = c .before .before .before .before .before .before .before .before .header .given in
     let m = moves-on (c .before .before .before .before .before .before .before .before .before .before .before .before .before .args .frame .now) 0 (headerOf (g .0 .0)) (g .0 .1 .0) (sym (c .before .before .before .before .before .before .before .before .before .before .decode .ensures) ∙ ap paperHeader (g .1)) in
-    (omega (arith, c .before .before .before .before .before .put-header .ensures .1), omega arith, m .1)
+    (omega arith, m .1, omega (arith, c .before .before .before .before .before .put-header .ensures .1))
 
 put-ok-requires : tie.Need-put-ok-requires
 put-ok-requires c κs = search needs

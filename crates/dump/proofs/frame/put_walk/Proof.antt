@@ -1,98 +1,78 @@
--- `dump::put_walk` meets its contract: each turn puts the line of the walk's next tag, and the lines of the others are still to come, or its outcome.
+-- `dump::put_walk` meets its contract: each turn puts the line of the walk's next tag, and the lines of what is left are still to come, or its outcome.
 -- Assumes nothing.
-use Rattle.dump.proofs.Puts.{Coming, all-coming, go-on, come}
-use Rattle.dump.proofs.Walking.{rest, rest-first, rest-end, Found, found, rest-refused, rest-fitting, rest-other, still-kept}
-use Rattle.dump.specs.Frame.{walkText}
-use Rattle.dump.specs.Open.{opened}
-use Rattle.walk.specs.Walk.{walkFrom}
-use Rattle.walk.specs.Tag.{standing, paperTagAt}
+use Rattle.walk.specs.Walk.{walkFrom, seen}
+use Rattle.walk.proofs.Steps.{walkLeft, step-inside, step-few, left-goes, left-ends}
 use Rattle.types.specs.Tag.{tagOf}
-use borrow.Author.Tests.{not-true, not-false}
-use lib.ListN.{length}
+use Rattle.types.specs.Answer.{paperOutcome}
+use Rattle.text.proofs.Puts.{Coming, all-coming, go-on, come}
+use Rattle.dump.specs.Frame.{walkText}
+use Rattle.dump.specs.Room.{tagRoom}
+use Rattle.dump.proofs.Walking.{restOf, rest-begins, rest-more, rest-ended}
 use native.Mathlib.Omega.{arith}
-use Prim.Native.Nat.{_+_, _-_, _*_, _≤_}
-use mathlib.Core.Path.{_≡_, refl, _∙_, sym, ap}
+use Prim.Native.Nat.{_+_, _-_, _*_, _≤_, _<_}
+use lib.ListN.{length}
+use mathlib.Core.Path.{_≡_, refl, _∙_, ap}
 use borrow.Author.Needs.{needs}
 use Rattle.dump.proofs.frame.put_walk.Statement.{statement}
 use Rattle.dump.proofs.frame.put_walk.Tie as tie
 
 abbrev Inv-loop : tie.InvT-loop
-Inv-loop out₀ at number frame start numbers₀ next₀ place₀ blocks₀ tags₀ out numbers next place blocks tags = (place ≤ length frame) × (tags ≤ place) × (blocks ≤ 16) × (length numbers ≡ 17) × (length out ≡ length out₀) × (next ≤ at + 57 * place) × Coming out₀ at (walkText number (walkFrom frame start)) out next (rest number tags frame place (opened blocks numbers))
+Inv-loop number frame body out₀ place numbers₀ blocks₀ start₀ tags₀ next₀ out numbers blocks start tags next = (start ≤ length frame) × (tags ≤ start) × (blocks ≤ 16) × (length out ≡ length out₀) × (next ≤ place + tagRoom * start) × Coming out₀ place (walkText number (walkFrom frame body)) out next (restOf number tags (walkLeft frame start blocks numbers))
 
 abbrev μ-loop : tie.MeasureT-loop
-μ-loop out₀ at number frame start numbers₀ next₀ place₀ blocks₀ tags₀ out numbers next place blocks tags = length frame - place
+μ-loop number frame body out₀ place numbers₀ blocks₀ start₀ tags₀ next₀ out numbers blocks start tags next = length frame - start
 
--- the tag found in a turn
-tag-found : (c : tie.After-tag Inv-loop μ-loop) → (let l = c .before .before .before .before .loop in let g = c .tag .given .0 in Found (c .before .before .before .before .before .before .before .args .frame .now) (l .place) (l .blocks) (standing (tagOf (g .0)) (g .1 .0) (g .1 .1 .1 .0)) (g .1 .1 .0))
-tag-found c = found _ _ _ _ _ _ _ _ (c .before .before .before .before .loop .inv .2) (c .before .before .tag-at .ensures) (c .tag .given .1)
+-- where the tag of a turn ends, its depth, and the blocks open behind it
+found : (c : tie.After-tag Inv-loop μ-loop) → (let l = c .before .before .before .before .loop in let g = c .tag .given .0 in (l .start < g .1 .1 .0) × (g .1 .1 .0 ≤ length (c .before .before .before .before .before .before .before .args .frame .now)) × (g .1 .0 ≤ 16) × (g .1 .1 .1 .0 ≤ 16))
+found c = let a = c .before .before .before .before .before .before .before .args in
+    let l = c .before .before .before .before .loop in
+    let s = c .before .before .step in
+    let i = step-inside (a .frame .now) (l .start) (l .blocks) (l .numbers) (s .last .1 .1 .1 .0) (s .result) (s .ensures .0) (c .tag .given .1) in
+    let f = step-few (a .frame .now) (l .start) (l .blocks) (l .numbers) (s .last .1 .1 .1 .0) (s .result) (s .ensures .0) (c .tag .given .1) (l .inv .2) in
+    (i .1, i .2, f .0, f .1)
 
 loop-holds : tie.Need-loop-holds Inv-loop μ-loop
-loop-holds c = (omega arith, omega arith, omega arith, refl, refl, omega arith, all-coming (rest-first (c .before .before .args .number) (c .before .before .args .frame .now) (c .before .before .args .start) (omega arith) (omega arith)))
+loop-holds c = (omega arith, omega arith, omega arith, refl, omega arith, all-coming (rest-begins _ _ _ _))
 
-tag-at-requires : tie.Need-tag-at-requires Inv-loop μ-loop
-tag-at-requires c κs = search needs
+step-requires : tie.Need-step-requires Inv-loop μ-loop
+step-requires c κs = search needs
 
 enum-known-tag : tie.Need-enum-known-tag Inv-loop μ-loop
 enum-known-tag c = search needs
 
-fits-requires : tie.Need-fits-requires Inv-loop μ-loop
-fits-requires c κs = omega (arith, tag-found (c .before .before) .shallow)
-
-put-refused-requires : tie.Need-put-refused-requires Inv-loop μ-loop
-put-refused-requires c κs = search needs
-
-same-length : tie.Need-same-length Inv-loop μ-loop
-same-length c = search needs
-
-returns : tie.Need-returns Inv-loop μ-loop
-returns c = let a = c .before .before .before .before .before .before .before .before .before .before .before .before .before .before .before .args in
-    let l = c .before .before .before .before .before .before .before .before .before .before .before .before .loop in
-    let f = sym (c .before .before .before .before .before .fits2 .ensures .0) ∙ not-true _ (c .before .before .before .before .if1 .taken) in
-    (come (l .inv .6) (rest-other (a .frame .now) (l .place) (l .blocks) (l .numbers) (omega arith) _ _ (tag-found (c .before .before .before .before .before .before .before .before)) (l .inv .3) (a .number) (l .tags) f) (c .before .before .put-refused .ensures .0), omega (arith, c .before .before .put-refused .ensures .1))
-
 put-tag-requires : tie.Need-put-tag-requires Inv-loop μ-loop
-put-tag-requires c κs = (omega arith, omega arith, omega (arith, tag-found (c .before .before .before .before .before) .shallow))
+put-tag-requires c κs = let f = found (c .before .before) in (omega (arith, f .0, f .1), omega (arith, f .2), omega arith)
 
 add-tags : tie.Need-add-tags Inv-loop μ-loop
 add-tags c = search needs
 
 loop-less : tie.Need-loop-less Inv-loop μ-loop
-loop-less c = omega (arith, tag-found (c .before .before .before .before .before .before .before .before) .behind, tag-found (c .before .before .before .before .before .before .before .before) .inside)
+loop-less c = let f = found (c .before .before .before .before .before) in omega (arith, f .0, f .1)
 
 loop-again : tie.Need-loop-again Inv-loop μ-loop
-loop-again c = let a = c .before .before .before .before .before .before .before .before .before .before .before .before .before .before .before .args in
-    let l = c .before .before .before .before .before .before .before .before .before .before .before .before .loop in
-    let t = tag-found (c .before .before .before .before .before .before .before .before) in
-    let o = c .before .before .before .before .before .fits2 .ensures .1 in
-    let f = sym (c .before .before .before .before .before .fits2 .ensures .0) ∙ not-false _ (c .before .before .before .before .if1 .left) in
-    let more = rest-fitting (a .frame .now) (l .place) (l .blocks) (l .numbers) (omega arith) _ _ t (l .inv .3) (a .number) (l .tags) f in
-    (t .inside, omega (arith, t .behind), t .few, rw o (still-kept (l .numbers) t (l .inv .3)), omega arith, omega (arith, t .behind, c .before .before .put-tag .ensures .1), rw o (go-on (l .inv .6) more (c .before .before .put-tag .ensures .0)))
-
-enum-known-refusal : tie.Need-enum-known-refusal Inv-loop μ-loop
-enum-known-refusal c = search needs
-
-put-refused-requires-2 : tie.Need-put-refused-requires-2 Inv-loop μ-loop
-put-refused-requires-2 c κs = search needs
-
-same-length-2 : tie.Need-same-length-2 Inv-loop μ-loop
-same-length-2 c = search needs
-
-returns-2 : tie.Need-returns-2 Inv-loop μ-loop
-returns-2 c = let a = c .before .before .before .before .before .before .before .before .before .before .before .before .args in
+loop-again c = let a = c .before .before .before .before .before .before .before .before .before .before .before .before .args in
     let l = c .before .before .before .before .before .before .before .before .before .loop in
-    let e = sym (c .before .before .before .before .before .before .before .tag-at .ensures) ∙ ap paperTagAt (c .before .before .before .before .before .refusal .given .1) in
-    (come (l .inv .6) (rest-refused (a .frame .now) (l .place) (l .blocks) (l .numbers) (omega arith) (a .number) (l .tags) _ _ e) (c .before .before .put-refused2 .ensures .0), omega (arith, c .before .before .put-refused2 .ensures .1))
+    let s = c .before .before .before .before .before .before .before .step in
+    let g = c .before .before .before .before .before .tag .given .0 in
+    let f = found (c .before .before .before .before .before) in
+    let more = ap (restOf (a .number) (l .tags)) (left-goes (a .frame .now) (l .start) (l .blocks) (l .numbers) (s .last .1 .1 .1 .0) (s .result) (s .ensures .0) (c .before .before .before .before .before .tag .given .1)) ∙ rest-more (a .number) (l .tags) (seen (l .start) (g .1 .0) (tagOf (g .0))) (walkLeft (a .frame .now) (g .1 .1 .0) (g .1 .1 .1 .0) (s .last .1 .1 .1 .0)) in
+    (f .1, omega (arith, f .0), f .3, omega arith, omega (arith, f .0, c .before .before .put-tag .ensures .1), go-on (l .inv .5) more (c .before .before .put-tag .ensures .0))
 
-put-end-requires : tie.Need-put-end-requires Inv-loop μ-loop
-put-end-requires c κs = search needs
+enum-known-outcome : tie.Need-enum-known-outcome Inv-loop μ-loop
+enum-known-outcome c = search needs
 
-same-length-3 : tie.Need-same-length-3 Inv-loop μ-loop
-same-length-3 c = search needs
+put-outcome-requires : tie.Need-put-outcome-requires Inv-loop μ-loop
+put-outcome-requires c κs = search needs
 
-returns-3 : tie.Need-returns-3 Inv-loop μ-loop
-returns-3 c = let a = c .before .before .before .before .before .before .before .before .args in
-    let l = c .before .before .before .before .before .loop in
-    (come (l .inv .6) (rest-end (a .number) (l .tags) (a .frame .now) (l .place) (l .blocks) (l .numbers) (omega arith)) (c .before .before .put-end .ensures .0), omega (arith, c .before .before .put-end .ensures .1))
+same-length : tie.Need-same-length Inv-loop μ-loop
+same-length c = search needs
+
+returns : tie.Need-returns Inv-loop μ-loop
+returns c = let a = c .before .before .before .before .before .before .before .before .before .before .before .before .args in
+    let l = c .before .before .before .before .before .before .before .before .before .loop in
+    let s = c .before .before .before .before .before .before .before .step in
+    let e = ap (restOf (a .number) (l .tags)) (left-ends (a .frame .now) (l .start) (l .blocks) (l .numbers) (s .last .1 .1 .1 .0) (s .result) (s .ensures .0) (c .before .before .before .before .before .outcome .given .1)) ∙ rest-ended (a .number) (l .tags) (paperOutcome (c .before .before .before .before .before .outcome .given .0 .0)) in
+    (come (l .inv .5) e (c .before .before .put-outcome .ensures .0), omega (arith, c .before .before .put-outcome .ensures .1))
 
 pub put-walk-spec : {M : Type 1} → statement M
 put-walk-spec =
@@ -101,20 +81,13 @@ put-walk-spec =
     Inv-loop
     μ-loop
     loop-holds
-    tag-at-requires
+    step-requires
     enum-known-tag
-    fits-requires
-    put-refused-requires
-    same-length
-    returns
     put-tag-requires
     add-tags
     loop-less
     loop-again
-    enum-known-refusal
-    put-refused-requires-2
-    same-length-2
-    returns-2
-    put-end-requires
-    same-length-3
-    returns-3)
+    enum-known-outcome
+    put-outcome-requires
+    same-length
+    returns)

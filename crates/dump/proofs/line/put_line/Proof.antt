@@ -1,84 +1,101 @@
--- `dump::put_line` meets its contract: the digits from the place on are the line's, so the line is a frame exactly if it ends where they do.
+-- `dump::put_line` meets its contract: in each arm it is known what stands at the place, and with it which text is put.
 -- Assumes nothing.
-use borrow.Author.Needs.{needs}
+use Rattle.lines.specs.Lines.{untilNewline, paperLine, bytesAfter}
+use Rattle.lines.specs.declared.line.Line.{Line}
+use Rattle.lines.proofs.There.{FrameTold, frame-told, other-told, none-told, never-refused, told-few}
+use Rattle.dump.proofs.LineTexts.{start-past-end, place-past-end, no-room, no-line, line-put, frame-text, other-text}
 use native.Mathlib.Omega.{arith}
-use mathlib.Core.Path.{_≡_, refl, sym, ap, _∙_}
-use Prim.Native.Nat.{ℕ, _+_, _-_}
-use lib.ListN.{length, take}
-use lib.Dec.{eqb}
-use Rattle.dump.specs.Text.{Wrote}
-use Rattle.dump.specs.Hexadecimal.{textBy}
-use Rattle.dump.specs.Lines.{lineEnds, noLine, endFrom, paperEnd}
-use Rattle.dump.proofs.LineTexts.{from-past-end, place-past-end, no-room, no-line, line-put, ends-there, behind-digits, frame-of-line, text-of-line}
+use Prim.Native.Nat.{_-_, _≤_}
+use Rattle.lines.specs.Hexadecimal.{mostBytes}
+use lib.ListN.{drop}
+use mathlib.Core.Path.{refl, sym, ap, _∙_}
+use borrow.Author.Needs.{needs}
 use Rattle.dump.proofs.line.put_line.Statement.{statement}
 use Rattle.dump.proofs.line.put_line.Tie as tie
 
+-- what the answer of a frame tells
+frame : (c : tie.After-bytes) → (let a = c .before .before .before .before .before .before .before .before .before .args in let g = c .bytes .given .0 in FrameTold (a .ended) (a .buf .now) (a .start) (omega arith) (g .0) (g .1 .0))
+frame c = let a = c .before .before .before .before .before .before .before .before .before .args in
+    let g = c .bytes .given in
+    frame-told (a .ended) (a .buf .now) (a .start) (omega arith) (g .0 .0) (g .0 .1 .0) (sym (ap paperLine (g .1)) ∙ c .before .before .line-at .ensures .0)
+
+few : (c : tie.After-bytes) → c .bytes .given .0 .0 ≤ mostBytes
+few c = let a = c .before .before .before .before .before .before .before .before .before .args in told-few (a .ended) (a .buf .now) (a .start) (omega arith) (frame c)
+
 returns : tie.Need-returns
-returns c = let a = c .before .before .before .args in (from-past-end (a .ended) (a .number) (a .buf .now) (a .from) (a .out .now) (a .place) (omega arith), refl)
+returns c = let a = c .before .before .before .args in (start-past-end (a .ended) (a .number) (a .buf .now) (a .start) (a .out .now) (a .place) (omega arith), refl)
 
 returns-2 : tie.Need-returns-2
-returns-2 c = let a = c .before .before .before .before .args in (place-past-end (a .ended) (a .number) (a .buf .now) (a .from) (a .out .now) (a .place) (omega arith) (omega arith), refl)
+returns-2 c = let a = c .before .before .before .before .args in (place-past-end (a .ended) (a .number) (a .buf .now) (a .start) (a .out .now) (a .place) (omega arith) (omega arith), refl)
 
 sub-if3 : tie.Need-sub-if3
 sub-if3 c = search needs
 
 returns-3 : tie.Need-returns-3
-returns-3 c = let a = c .before .before .before .before .before .args in (no-room (a .ended) (a .number) (a .buf .now) (a .from) (a .out .now) (a .place) (omega arith) (omega arith) (omega arith), refl)
+returns-3 c = let a = c .before .before .before .before .before .args in (no-room (a .ended) (a .number) (a .buf .now) (a .start) (a .out .now) (a .place) (omega arith) (omega arith) (omega arith), refl)
 
-decode-requires : tie.Need-decode-requires
-decode-requires c κs = search needs
+line-at-requires : tie.Need-line-at-requires
+line-at-requires c κs = search needs
 
-add-digits : tie.Need-add-digits
-add-digits c = search needs
+enum-known-bytes : tie.Need-enum-known-bytes
+enum-known-bytes c = search needs
 
-add-digits-2 : tie.Need-add-digits-2
-add-digits-2 c = search needs
+sub-put-frame : tie.Need-sub-put-frame
+sub-put-frame c = search needs
 
-line-end-requires : tie.Need-line-end-requires
-line-end-requires c κs = let a = c .before .before .before .before .before .before .before .before .before .args in let d = c .before .before .decode in ((omega arith, omega arith), behind-digits (a .buf .now) (a .from) (a .frame .now) (d .last .1 .1 .0) (d .result) (d .ensures .1 .0) (d .ensures .0) (a .from + d .result + d .result) refl)
+part-put-frame-start : tie.Need-part-put-frame-start
+part-put-frame-start c = search needs
 
-enum-known-end : tie.Need-enum-known-end
-enum-known-end c = search needs
+part-put-frame-end : tie.Need-part-put-frame-end
+part-put-frame-end c = omega (arith, few (c .before .before .before))
 
-sub-put-text : tie.Need-sub-put-text
-sub-put-text c = search needs
+put-frame-requires : tie.Need-put-frame-requires
+put-frame-requires c κs = (omega (arith, few (c .before .before .before .before .before)), omega arith)
 
-part-put-text-start : tie.Need-part-put-text-start
-part-put-text-start c = search needs
+enum-known-next : tie.Need-enum-known-next
+enum-known-next c = search needs
 
-part-put-text-end : tie.Need-part-put-text-end
-part-put-text-end c = search needs
-
-put-text-requires : tie.Need-put-text-requires
-put-text-requires c κs = search needs
+put-refused-requires : tie.Need-put-refused-requires
+put-refused-requires c κs = search needs
 
 enum-told : tie.Need-enum-told
 enum-told c = search needs
+
+enum-known-refusal : tie.Need-enum-known-refusal
+enum-known-refusal c = search needs
 
 same-length : tie.Need-same-length
 same-length c = search needs
 
 returns-4 : tie.Need-returns-4
-returns-4 c =
-    let a = c .before .before .before .before .before .before .before .before .before .before .before .before .before .before .before .before .before .before .args in
-    let d = c .before .before .before .before .before .before .before .before .before .before .before .decode in
-    let end : ℕ = c .before .before .before .before .before .before .end .given .0 .0 in
-    let next : ℕ = c .before .before .before .before .before .before .end .given .0 .1 .0 in
-    let e : lineEnds end next ≡ endFrom (a .ended) (a .buf .now) (a .from) = sym (ap paperEnd (c .before .before .before .before .before .before .end .given .1)) ∙ c .before .before .before .before .before .before .before .before .line-end .ensures in
-    let there = ends-there (a .ended) (a .buf .now) (a .from) end next (omega arith) e in
-    let room : length (d .last .1 .1 .0) ≡ 1476 = omega (arith, c .before .before .before .before .before .before .before .before .before .bytes2 .given) in
-    let digits : ℕ = a .from + d .result + d .result in
-    let w : Wrote (a .out .now) (a .place) (textBy (eqb end digits) (a .number) (take (d .result - 0) (d .last .1 .1 .0))) (c .before .before .put-text .last .0) (c .before .before .put-text .result) = c .before .before .put-text .ensures .0 in
-    let t = text-of-line (a .buf .now) (a .from) (a .frame .now) (d .last .1 .1 .0) (d .result) (d .ensures .1 .0) (d .ensures .0) room (a .number) (d .result - 0) digits end (omega arith) refl (there .0) in
-    (line-put (a .ended) (a .number) (a .buf .now) (a .from) (a .out .now) (a .place) (omega arith) (omega arith) end next (c .before .before .put-text .result) (c .before .before .put-text .last .0) e (rw t at w) (omega arith), frame-of-line (a .buf .now) (a .from) (a .frame .now) (d .last .1 .1 .0) (d .result) (d .ensures .1 .0) (d .ensures .0) room)
+returns-4 c = let a = c .before .before .before .before .before .before .before .before .before .before .before .before .before .before .before .before .before .args in
+    let t = c .before .before .before .before .before .before .before .before .before .before .line-at in
+    let g = c .before .before .before .before .before .before .before .before .bytes .given in
+    let l = untilNewline (drop (a .start) (a .buf .now)) in
+    let w = frame (c .before .before .before .before .before .before .before .before) in
+    let f = t .ensures .1 ∙ ap (λ (x : Line). bytesAfter (paperLine x) l (a .frame .now)) (g .1) in
+    let e = frame-text (a .number) l (a .frame .now) (t .last .1 .1 .1 .0) (g .0 .0 - 0) (w .good) (omega (arith, w .counted)) f in
+    (line-put (a .ended) (a .number) (a .buf .now) (a .start) (a .out .now) (a .place) (omega arith) (omega arith) (w .end) (g .0 .1 .0) (c .before .before .put-frame .result) (c .before .before .put-frame .last .1 .1 .0) _ (w .ending) e (c .before .before .put-frame .ensures .0) (c .before .before .put-frame .ensures .1), f)
+
+same-length-2 : tie.Need-same-length-2
+same-length-2 c = search needs
 
 returns-5 : tie.Need-returns-5
-returns-5 c =
-    let a = c .before .before .before .before .before .before .before .before .before .before .before .before .args in
-    let d = c .before .before .before .before .before .decode in
-    let e : noLine ≡ endFrom (a .ended) (a .buf .now) (a .from) = sym (ap paperEnd (c .enum-told .given .1)) ∙ c .before .before .line-end .ensures in
-    let room : length (d .last .1 .1 .0) ≡ 1476 = omega (arith, c .before .before .before .bytes2 .given) in
-    (no-line (a .ended) (a .number) (a .buf .now) (a .from) (a .out .now) (a .place) (omega arith) (omega arith) e, frame-of-line (a .buf .now) (a .from) (a .frame .now) (d .last .1 .1 .0) (d .result) (d .ensures .1 .0) (d .ensures .0) room)
+returns-5 c = let a = c .before .before .before .before .before .before .before .before .before .before .before .before .before .before .args in
+    let t = c .before .before .before .before .before .before .before .line-at in
+    let g = c .before .before .before .before .before .next .given in
+    let l = untilNewline (drop (a .start) (a .buf .now)) in
+    let w = other-told (a .ended) (a .buf .now) (a .start) (omega arith) (g .0 .0) (sym (ap paperLine (g .1)) ∙ t .ensures .0) in
+    (line-put (a .ended) (a .number) (a .buf .now) (a .start) (a .out .now) (a .place) (omega arith) (omega arith) (w .end) (g .0 .0) (c .before .before .put-refused .result) (c .before .before .put-refused .last .1 .1 .0) _ (w .ending) (other-text (a .number) l (w .good)) (c .before .before .put-refused .ensures .0) (omega (arith, c .before .before .put-refused .ensures .1)), t .ensures .1 ∙ ap (λ (x : Line). bytesAfter (paperLine x) l (a .frame .now)) (g .1))
+
+returns-6 : tie.Need-returns-6
+returns-6 c = let a = c .before .before .before .before .before .before .before .before .before .args in
+    let t = c .before .before .line-at in
+    let e = c .enum-told .given .1 in
+    (no-line (a .ended) (a .number) (a .buf .now) (a .start) (a .out .now) (a .place) (omega arith) (omega arith) (none-told (a .ended) (a .buf .now) (a .start) (omega arith) (sym (ap paperLine e) ∙ t .ensures .0)), t .ensures .1 ∙ ap (λ (x : Line). bytesAfter (paperLine x) (untilNewline (drop (a .start) (a .buf .now))) (a .frame .now)) e)
+
+returns-7 : tie.Need-returns-7
+returns-7 c = let a = c .before .before .before .before .before .before .before .before .before .before .args in absurd (never-refused (a .ended) (a .buf .now) (a .start) (omega arith) _ _ (sym (ap paperLine (c .before .refusal .given .1)) ∙ c .before .before .before .line-at .ensures .0))
 
 pub put-line-spec : {M : Type 1} → statement M
 put-line-spec =
@@ -88,16 +105,19 @@ put-line-spec =
     returns-2
     sub-if3
     returns-3
-    decode-requires
-    add-digits
-    add-digits-2
-    line-end-requires
-    enum-known-end
-    sub-put-text
-    part-put-text-start
-    part-put-text-end
-    put-text-requires
+    line-at-requires
+    enum-known-bytes
+    sub-put-frame
+    part-put-frame-start
+    part-put-frame-end
+    put-frame-requires
+    enum-known-next
+    put-refused-requires
     enum-told
+    enum-known-refusal
     same-length
     returns-4
-    returns-5)
+    same-length-2
+    returns-5
+    returns-6
+    returns-7)

@@ -1,0 +1,10 @@
+pub mod Digits
+pub mod Decoding
+pub mod Ends
+pub mod Moved
+pub mod There
+pub mod Spelled
+pub mod Cut
+pub mod First
+pub mod Begun
+pub mod Single
