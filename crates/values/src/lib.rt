@@ -1,6 +1,7 @@
 // Application values: the twelve cases, read and written at a place of a buffer, a file to each.
 mod bits;
 mod boolean;
+mod bytes;
 mod date;
 mod integer;
 mod object_id;

@@ -6,6 +6,7 @@ ghost use Rattle.types.specs.Writing.{paperWritten, left};
 ghost use Rattle.tags.specs.Item.{itemTo};
 ghost use Rattle.values.specs.ObjectId.{idOf, objectIdUnder, objectIdBytes, objectIdWritable, ObjectIdWrites, paperObjectId};
 ghost use Rattle.values.specs.Writing.{outcomeOf};
+use crate::bytes::four_bytes;
 use numbers::WordRead;
 use types::ApplicationTagNumber;
 use types::Outcome;
@@ -57,16 +58,17 @@ pub(crate) fn object_id_writable(id: ObjectId) -> Outcome
     Outcome::Passed
 }
 
-// Writes an identifier that can be written; nothing is lent.
+// Writes an identifier that can be written, as four bytes that are lent.
 pub(crate) fn write_object_id(id: ObjectId, buf: &mut [u8], place: usize) -> Written
     requires { ⌜ ObjectIdWrites (idOf id) ⌝ }
     ensures { λ r. ⌜ left (paperWritten r) (now (buf .exit)) ≡ itemTo (application 12) (objectIdBytes (idOf id)) (now (buf .entry)) place ⌝ }
 {
+    let bytes = four_bytes(id.object_type as u32 * 4194304 + id.instance);
     tags::encode_item(
         TagNumber::Application(ApplicationTagNumber::ObjectId),
-        id.object_type as u64 * 4194304 + id.instance as u64,
-        4,
-        &[],
+        0,
+        0,
+        &bytes,
         buf,
         place,
     )

@@ -3,7 +3,11 @@ ghost use mathlib.Core.Path.{_≡_};
 ghost use Prim.Native.Nat.{_≤_};
 ghost use lib.ListN.{length};
 ghost use Rattle.types.specs.Tag.{tagOf, applicationOf};
-ghost use Rattle.values.specs.Reading.{valueFrom, underTag, ofKind, paperValue};
+ghost use Rattle.values.specs.Date.{dateUnder};
+ghost use Rattle.values.specs.Time.{timeUnder};
+ghost use Rattle.values.specs.ObjectId.{objectIdUnder};
+ghost use Rattle.values.specs.Reading.{valueFrom, underTag, ofKind, objectIdCase, paperValue};
+ghost use Rattle.values.specs.Value.{onDate, atTime, cased};
 use crate::bits::read_bits;
 use crate::boolean::read_boolean;
 use crate::date::DateRead;
@@ -67,23 +71,45 @@ fn of_kind(name: ApplicationTagNumber, tag: Tag, buf: &[u8], place: usize) -> Va
         ApplicationTagNumber::CharacterString => read_text(len, buf, place),
         ApplicationTagNumber::BitString => read_bits(len, buf, place),
         ApplicationTagNumber::Enumerated => read_enumerated(len, buf, place),
-        ApplicationTagNumber::Date => match read_date(len, buf, place) {
-            DateRead::Date(d, next) => ValueRead::Value(ApplicationDataValue::Date(d), next),
-            DateRead::Refused(r) => ValueRead::Refused(r),
-        },
-        ApplicationTagNumber::Time => match read_time(len, buf, place) {
-            TimeRead::Time(t, next) => ValueRead::Value(ApplicationDataValue::Time(t), next),
-            TimeRead::Refused(r) => ValueRead::Refused(r),
-        },
-        ApplicationTagNumber::ObjectId => match read_object_id(len, buf, place) {
-            ObjectIdRead::ObjectId(id, next) => ValueRead::Value(
-                ApplicationDataValue::ObjectId(id),
-                next,
-            ),
-            ObjectIdRead::Refused(r) => ValueRead::Refused(r),
-        },
+        ApplicationTagNumber::Date => date(len, buf, place),
+        ApplicationTagNumber::Time => time(len, buf, place),
+        ApplicationTagNumber::ObjectId => object_id(len, buf, place),
         ApplicationTagNumber::Reserve1 => ValueRead::Refused(Refusal::NotAValueTag(tag)),
         ApplicationTagNumber::Reserve2 => ValueRead::Refused(Refusal::NotAValueTag(tag)),
         ApplicationTagNumber::Reserve3 => ValueRead::Refused(Refusal::NotAValueTag(tag)),
+    }
+}
+
+// The date whose content has this length, as a value.
+fn date(len: u32, buf: &[u8], place: usize) -> ValueRead
+    ensures { λ r. ⌜ paperValue r ≡ cased onDate (dateUnder len (now (buf .entry)) place) ⌝ }
+{
+    match read_date(len, buf, place) {
+        DateRead::Date(date, next) => ValueRead::Value(ApplicationDataValue::Date(date), next),
+        DateRead::Refused(r) => ValueRead::Refused(r),
+    }
+}
+
+// The time whose content has this length, as a value.
+fn time(len: u32, buf: &[u8], place: usize) -> ValueRead
+    requires { ⌜ place ≤ length (now buf) ⌝ }
+    ensures { λ r. ⌜ paperValue r ≡ cased atTime (timeUnder len (now (buf .entry)) place) ⌝ }
+{
+    match read_time(len, buf, place) {
+        TimeRead::Time(time, next) => ValueRead::Value(ApplicationDataValue::Time(time), next),
+        TimeRead::Refused(r) => ValueRead::Refused(r),
+    }
+}
+
+// The object identifier whose content has this length, as a value.
+fn object_id(len: u32, buf: &[u8], place: usize) -> ValueRead
+    ensures { λ r. ⌜ paperValue r ≡ cased objectIdCase (objectIdUnder len (now (buf .entry)) place) ⌝ }
+{
+    match read_object_id(len, buf, place) {
+        ObjectIdRead::ObjectId(id, next) => ValueRead::Value(
+            ApplicationDataValue::ObjectId(id),
+            next,
+        ),
+        ObjectIdRead::Refused(r) => ValueRead::Refused(r),
     }
 }

@@ -7,6 +7,8 @@ ghost use Rattle.tags.specs.Item.{itemTo};
 ghost use Rattle.values.specs.Real.{realUnder, doubleUnder, realBytes, doubleBytes};
 ghost use Rattle.values.specs.Reading.{realOrDouble, paperValue};
 ghost use Rattle.values.specs.Value.{real, double, cased};
+use crate::bytes::eight_bytes;
+use crate::bytes::four_bytes;
 use crate::value::ApplicationDataValue;
 use crate::value_read::ValueRead;
 use numbers::UnsignedRead;
@@ -99,29 +101,31 @@ fn read_double(len: u32, buf: &[u8], place: usize) -> ValueRead
     }
 }
 
-// Writes a real; nothing is lent.
+// Writes a real, as four bytes that are lent.
 pub(crate) fn write_real(value: f32, buf: &mut [u8], place: usize) -> Written
     ensures { λ r. ⌜ left (paperWritten r) (now (buf .exit)) ≡ itemTo (application 4) (realBytes value) (now (buf .entry)) place ⌝ }
 {
+    let bytes = four_bytes(real_bits(value));
     tags::encode_item(
         TagNumber::Application(ApplicationTagNumber::Real),
-        real_bits(value) as u64,
-        4,
-        &[],
+        0,
+        0,
+        &bytes,
         buf,
         place,
     )
 }
 
-// Writes a double, which stands under the real's tag; nothing is lent.
+// Writes a double, which stands under the real's tag, as eight bytes that are lent.
 pub(crate) fn write_double(value: f64, buf: &mut [u8], place: usize) -> Written
     ensures { λ r. ⌜ left (paperWritten r) (now (buf .exit)) ≡ itemTo (application 4) (doubleBytes value) (now (buf .entry)) place ⌝ }
 {
+    let bytes = eight_bytes(double_bits(value));
     tags::encode_item(
         TagNumber::Application(ApplicationTagNumber::Real),
-        double_bits(value),
-        8,
-        &[],
+        0,
+        0,
+        &bytes,
         buf,
         place,
     )

@@ -1,10 +1,6 @@
 -- `values::of_kind` meets its contract: in each arm the tag's name, and so its number, is known.
 -- Assumes nothing.
 use borrow.Author.Needs.{needs}
-use mathlib.Core.Path.{sym, ap, _∙_}
-use Rattle.values.specs.Date.{paperDate}
-use Rattle.values.specs.Time.{paperTime}
-use Rattle.values.specs.ObjectId.{paperObjectId}
 use Rattle.values.specs.Reading.{ofKind}
 use Rattle.values.proofs.reading.of_kind.Statement.{statement}
 use Rattle.values.proofs.reading.of_kind.Tie as tie
@@ -18,17 +14,17 @@ returns-6 : tie.Need-returns-6
 unfolding ofKind
 returns-6 c = simp (c .enum-told6 .given .1)
 
-returns-17 : tie.Need-returns-17
+returns-14 : tie.Need-returns-14
 unfolding ofKind
-returns-17 c = simp (c .enum-told14 .given .1)
+returns-14 c = simp (c .enum-told14 .given .1)
 
-returns-18 : tie.Need-returns-18
+returns-15 : tie.Need-returns-15
 unfolding ofKind
-returns-18 c = simp (c .enum-told15 .given .1)
+returns-15 c = simp (c .enum-told15 .given .1)
 
-returns-19 : tie.Need-returns-19
+returns-16 : tie.Need-returns-16
 unfolding ofKind
-returns-19 c = simp (c .enum-told16 .given .1)
+returns-16 c = simp (c .enum-told16 .given .1)
 
 -- a row for each arm, in the order of the source: first what is known and asked there, then what is returned
 pub of-kind-spec : {M : Type 1} → statement M
@@ -46,9 +42,9 @@ of-kind-spec =
     (λ c. search needs) (λ c κs. search needs)
     (λ c. search needs) (λ c κs. search needs)
     (λ c. search needs) (λ c κs. search needs)
-    (λ c. search needs) (λ c κs. search needs) (λ c. search needs) (λ c. search needs)
-    (λ c. search needs) (λ c κs. search needs) (λ c. search needs) (λ c. search needs)
-    (λ c. search needs) (λ c κs. search needs) (λ c. search needs) (λ c. search needs)
+    (λ c. search needs) (λ c κs. search needs)
+    (λ c. search needs) (λ c κs. search needs)
+    (λ c. search needs) (λ c κs. search needs)
     (λ c. search needs)
     (λ c. search needs)
     (λ c. search needs)
@@ -62,12 +58,9 @@ of-kind-spec =
     (λ c. simp (c .before .enum-told8 .given .1) (c .read-text .ensures))
     (λ c. simp (c .before .enum-told9 .given .1) (c .read-bits .ensures))
     (λ c. simp (c .before .enum-told10 .given .1) (c .read-enumerated .ensures))
-    (λ c. simp (c .before .before .before .before .enum-told11 .given .1, sym (c .before .before .before .read-date .ensures) ∙ ap paperDate (c .before .d .given .1)))
-    (λ c. simp (c .before .before .before .before .enum-told11 .given .1, sym (c .before .before .before .read-date .ensures) ∙ ap paperDate (c .before .r .given .1)))
-    (λ c. simp (c .before .before .before .before .enum-told12 .given .1, sym (c .before .before .before .read-time .ensures) ∙ ap paperTime (c .before .t .given .1)))
-    (λ c. simp (c .before .before .before .before .enum-told12 .given .1, sym (c .before .before .before .read-time .ensures) ∙ ap paperTime (c .before .r2 .given .1)))
-    (λ c. simp (c .before .before .before .before .enum-told13 .given .1, sym (c .before .before .before .read-object-id .ensures) ∙ ap paperObjectId (c .before .id .given .1)))
-    (λ c. simp (c .before .before .before .before .enum-told13 .given .1, sym (c .before .before .before .read-object-id .ensures) ∙ ap paperObjectId (c .before .r3 .given .1)))
-    returns-17
-    returns-18
-    returns-19)
+    (λ c. simp (c .before .enum-told11 .given .1) (c .date .ensures))
+    (λ c. simp (c .before .enum-told12 .given .1) (c .time .ensures))
+    (λ c. simp (c .before .enum-told13 .given .1) (c .object-id .ensures))
+    returns-14
+    returns-15
+    returns-16)

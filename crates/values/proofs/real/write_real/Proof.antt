@@ -1,21 +1,23 @@
--- `values::write_real` meets its contract: the content is the four bytes of the real's bits, and nothing is lent.
+-- `values::write_real` meets its contract: the bytes that are lent are the four of the real's bits.
 -- Assumes nothing.
 use borrow.Author.Needs.{needs}
+use native.Mathlib.Omega.{arith}
 use mathlib.Core.Path.{_∙_, ap}
-use Prim.Native.Nat.{ℕ}
-use mathlib.Core.List.{[], _++_}
+use Prim.Native.Nat.{ℕ, _≤_}
+use mathlib.Core.List.{List}
+use lib.ListN.{length}
 use Rattle.types.specs.Tag.{application}
 use Rattle.numbers.specs.Integer.{lowBytes}
 use Rattle.tags.specs.Item.{itemLentTo}
-use Rattle.tags.proofs.ByParts.{none-lent}
+use Rattle.values.proofs.Lent.{lent-passed}
 use Rattle.values.proofs.real.write_real.Statement.{statement}
 use Rattle.values.proofs.real.write_real.Tie as tie
 
 real-bits-requires : tie.Need-real-bits-requires
 real-bits-requires c κs = search needs
 
-cast-encode-item : tie.Need-cast-encode-item
-cast-encode-item c = search needs
+four-bytes-requires : tie.Need-four-bytes-requires
+four-bytes-requires c κs = search needs
 
 slice-aggregate-encode-item : tie.Need-slice-aggregate-encode-item
 slice-aggregate-encode-item c = search needs
@@ -28,17 +30,18 @@ same-length c = search needs
 
 returns : tie.Need-returns
 returns c =
-    let a = c .before .before .before .before .before .before .before .args in
+    let a = c .before .before .before .before .before .before .before .before .args in
+    let few : 4 ≤ 65535 = omega arith in
     c .before .before .encode-item .ensures
-    ∙ ap (λ (n : ℕ). itemLentTo 0 (application 4) (lowBytes 4 n ++ []) (a .buf .now) (a .place)) (c .before .before .before .before .before .real-bits .ensures)
-    ∙ none-lent _ _ _ _
+    ∙ ap (λ (l : List ℕ). itemLentTo (length l) (application 4) l (a .buf .now) (a .place)) (c .before .before .before .before .before .four-bytes .ensures ∙ ap (lowBytes 4) (c .before .before .before .before .before .before .real-bits .ensures))
+    ∙ lent-passed _ _ _ _ _ few
 
 pub write-real-spec : {M : Type 1} → statement M
 write-real-spec =
     tie.close
     (tie.spec
     real-bits-requires
-    cast-encode-item
+    four-bytes-requires
     slice-aggregate-encode-item
     encode-item-requires
     same-length
