@@ -14,12 +14,12 @@ use Rattle.types.specs.Refusal.{Carried, amount}
 use Rattle.types.specs.Writing.{over}
 use Rattle.types.proofs.Choices.{either}
 use Rattle.lines.specs.Hexadecimal.{mostBytes, pairs, leading, isFrame}
-use Rattle.lines.specs.Lines.{untilNewline, End, lineEnds, noLine, endsBy, endFrom, aFrame, noFrame, notEnded, notRead, lineBy, lineFrom}
+use Rattle.lines.specs.Lines.{untilNewline, End, lineEnds, noLine, endingBy, endFrom, aFrame, noFrame, notEnded, notRead, lineBy, lineFrom}
 use Rattle.lines.proofs.Digits.{pairs-of-line, line-behind-pairs, leading-count, frame-by-count, frame-leading}
 use Rattle.lines.proofs.Ends.{line-inside}
 
 -- a line that ends does so where its bytes end, and the next begins behind its own start
-ends-as : (ended : Bool) (place last there e next : ℕ) → place ≤ there → there ≤ last → lineEnds e next ≡ endsBy ended place last there → (e ≡ there) × (place < next) × (next ≤ last)
+ends-as : (ended : Bool) (place last there e next : ℕ) → place ≤ there → there ≤ last → lineEnds e next ≡ endingBy ended place last there → (e ≡ there) × (place < next) × (next ≤ last)
 ends-as ended place last there e next h k =
     either (λ (x : End). lineEnds e next ≡ x → (e ≡ there) × (place < next) × (next ≤ last)) (ltb there last)
     (λ t q. let l : there < last = ltb-true there last t in let a : e ≡ there = cc in let b : next ≡ there + 1 = cc in (a, omega arith, omega arith))

@@ -25,11 +25,11 @@ pub data End : Type 0 where
   noLine : End
 
 -- a line from a place on, which goes to a newline or to the last place of what was read: it ends with the newline, or, if it is not empty, with the input
-abbrev pub endsBy : (ended : Bool) (place last end : ℕ) → End
-endsBy ended place last end = if (ltb end last) (lineEnds end (end + 1)) (if ended (if (eqb place last) noLine (lineEnds last last)) noLine)
+abbrev pub endingBy : (ended : Bool) (place last end : ℕ) → End
+endingBy ended place last end = if (ltb end last) (lineEnds end (end + 1)) (if ended (if (eqb place last) noLine (lineEnds last last)) noLine)
 
 unfoldable pub endFrom : Bool → List ℕ → ℕ → End
-endFrom ended xs place = endsBy ended place (length xs) (place + length (untilNewline (drop place xs)))
+endFrom ended xs place = endingBy ended place (length xs) (place + length (untilNewline (drop place xs)))
 
 abbrev pub paperEnd : LineEnd → End
 paperEnd (e.Ends end next) = lineEnds end next

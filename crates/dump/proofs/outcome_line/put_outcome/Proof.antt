@@ -1,6 +1,5 @@
 -- `dump::put_outcome` meets its contract: in each arm the outcome is known.
 -- Assumes nothing.
-use native.Mathlib.Omega.{arith}
 use borrow.Author.Needs.{needs}
 use Rattle.dump.proofs.outcome_line.put_outcome.Statement.{statement}
 use Rattle.dump.proofs.outcome_line.put_outcome.Tie as tie
