@@ -8,23 +8,24 @@ use Rattle.types.specs.Choice.{if}
 use Rattle.types.specs.Writing.{Left}
 use Rattle.headers.specs.Header.{Header, header, request, simple, complex, segment, nibbles, number, choice, headerOf}
 use Rattle.headers.specs.Writing.{headerTo}
-use Rattle.thaolisem.specs.Named.{bytesNamed, ofBytes, namedTo}
+use Rattle.thaolisem.specs.Named.{fitBytes, namedTo}
 use Rattle.thaolisem.specs.declared.kind.HeaderNamed as program
 use Rattle.thaolisem.specs.declared.kind.HeaderNamed.the-variants as h
 
 unfoldable pub requestNamed : (segments size id service : ℕ) → Option Header
-requestNamed s m i c = ofBytes (bytesNamed s m i c) (λ x. some (header request (nibbles (x .first) (x .second) ∷ number (x .third) ∷ choice (x .fourth) ∷ [])))
+requestNamed s m i c = if (fitBytes s m i c) (some (header request (nibbles s m ∷ number i ∷ choice c ∷ []))) none
 
 unfoldable pub segmentNamed : (id sequence window : ℕ) → Option Header
-segmentNamed i s w = ofBytes (bytesNamed i s w 0) (λ x. some (header segment (number (x .first) ∷ number (x .second) ∷ number (x .third) ∷ [])))
+segmentNamed i s w = if (fitBytes i s w 0) (some (header segment (number i ∷ number s ∷ number w ∷ []))) none
 
 -- a simple acknowledgement is of type 2, a complex one of type 3
 unfoldable pub acknowledgementNamed : (kind id service : ℕ) → Option Header
 acknowledgementNamed kind i c =
-    ofBytes (bytesNamed i c 0 0)
-    (λ x. if (eqb kind 2) (some (header simple (number (x .first) ∷ choice (x .second) ∷ [])))
-    (if (eqb kind 3) (some (header complex (number (x .first) ∷ choice (x .second) ∷ [])))
+    if (fitBytes i c 0 0)
+    (if (eqb kind 2) (some (header simple (number i ∷ choice c ∷ [])))
+    (if (eqb kind 3) (some (header complex (number i ∷ choice c ∷ [])))
     none))
+    none
 
 unfoldable pub headerNamed : (kind first second third fourth : ℕ) → Option Header
 headerNamed kind a b c d =

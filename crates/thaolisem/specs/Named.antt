@@ -5,14 +5,12 @@ use Prim.Native.Nat.{ℕ}
 use mathlib.Core.Bool.{Bool, true, false}
 use mathlib.Core.List.{List, [], _∷_}
 use mathlib.Core.Option.{Option, none, some}
-use lib.Dec.{ltb, eqb}
+use lib.Dec.{ltb, leb, eqb}
 use Rattle.types.specs.Choice.{if}
 use Rattle.types.specs.Tag.{Number, application, context, opening, closing, tag, numberOf}
 use Rattle.types.specs.Writing.{Left, unwritable, writing}
 use Rattle.tags.specs.Writing.{tagTo}
 use Rattle.tags.specs.Item.{itemTo, numberUnder, booleanByte}
-use Rattle.thaolisem.specs.declared.bytes.BytesNamed as program-bytes
-use Rattle.thaolisem.specs.declared.bytes.BytesNamed.the-variants as b
 use Rattle.thaolisem.specs.declared.tag.NumberNamed as program-number
 use Rattle.thaolisem.specs.declared.tag.NumberNamed.the-variants as n
 use Rattle.thaolisem.specs.declared.integer.ContextTagNamed as program-under
@@ -27,24 +25,9 @@ namedTo lent none to xs place = writing lent unwritable [] xs place
 abbrev pub ifAtMost : {A : Type 0} → (most number : ℕ) → Option A → Option A
 ifAtMost most x named = if (ltb most x) none named
 
--- four numbers
-pub record Four : Type 0 where
-  pub first : ℕ
-  pub second : ℕ
-  pub third : ℕ
-  pub fourth : ℕ
-
-abbrev pub four : ℕ → ℕ → ℕ → ℕ → Four
-four a b c d = record { first = a; second = b; third = c; fourth = d }
-
--- four numbers that fit a byte each
-unfoldable pub bytesNamed : (first second third fourth : ℕ) → Option Four
-bytesNamed a b c d = ifAtMost 255 a (ifAtMost 255 b (ifAtMost 255 c (ifAtMost 255 d (some (four a b c d)))))
-
--- what they name, if they do
-abbrev pub ofBytes : {A : Type 0} → Option Four → (Four → Option A) → Option A
-ofBytes (some x) name = name x
-ofBytes none name = none
+-- whether four numbers fit a byte each
+unfoldable pub fitBytes : (first second third fourth : ℕ) → Bool
+fitBytes a b c d = if (ltb 255 a) false (if (ltb 255 b) false (if (ltb 255 c) false (leb d 255)))
 
 -- an application tag's number goes to 15
 abbrev pub applicationNamed : ℕ → Option Number
@@ -80,10 +63,6 @@ unfoldable pub booleanNamedTo : (number boolean : ℕ) → List ℕ → (place :
 booleanNamedTo k b xs place = namedTo 0 (booleanNamed b) (λ x. itemTo (context k) (booleanByte x ∷ [])) xs place
 
 -- the program's enums for what is named
-abbrev pub paperBytes : program-bytes.BytesNamed → Option Four
-paperBytes (b.Bytes x y z w) = some (four x y z w)
-paperBytes b.Nothing = none
-
 abbrev pub paperNumberNamed : program-number.NumberNamed → Option Number
 paperNumberNamed (n.Number x) = some (numberOf x)
 paperNumberNamed n.Nothing = none

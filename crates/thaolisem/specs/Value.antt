@@ -14,15 +14,15 @@ use Rattle.values.specs.Date.{date}
 use Rattle.values.specs.Time.{time}
 use Rattle.values.specs.Value.{Value, boolean, real, double, onDate, atTime, objectId, characterString, octetString, enumerated, bitString, unsignedInt, signedInt, valueOf}
 use Rattle.values.specs.Writing.{valueTo}
-use Rattle.thaolisem.specs.Named.{ifAtMost, bytesNamed, ofBytes, namedTo}
+use Rattle.thaolisem.specs.Named.{ifAtMost, fitBytes, namedTo}
 use Rattle.thaolisem.specs.declared.named.ValueNamed as program
 use Rattle.thaolisem.specs.declared.named.ValueNamed.the-variants as v
 
 unfoldable pub dateNamed : (year month day weekday : ℕ) → Option Value
-dateNamed y m d w = ifAtMost 65535 y (ofBytes (bytesNamed m d w 0) (λ x. some (onDate (date y (x .first) (x .second) (x .third)))))
+dateNamed y m d w = ifAtMost 65535 y (if (fitBytes m d w 0) (some (onDate (date y m d w))) none)
 
 unfoldable pub timeNamed : (hour minute second hundredths : ℕ) → Option Value
-timeNamed h m s c = ofBytes (bytesNamed h m s c) (λ x. some (atTime (time (x .first) (x .second) (x .third) (x .fourth))))
+timeNamed h m s c = if (fitBytes h m s c) (some (atTime (time h m s c))) none
 
 unfoldable pub objectIdNamed : (type instance : ℕ) → Option Value
 objectIdNamed k i = ifAtMost 65535 k (ifAtMost 4294967295 i (some (objectId k i)))

@@ -1,8 +1,7 @@
 // The headers that a PDU type and its fields name.
 ghost use mathlib.Core.Path.{_≡_};
 ghost use Rattle.thaolisem.specs.Header.{paperHeaderNamed, requestNamed, acknowledgementNamed, segmentNamed, headerNamed};
-use crate::bytes::BytesNamed;
-use crate::bytes::bytes_named;
+use crate::bytes::fit_bytes;
 use headers::Header;
 
 // A header, or that a PDU type and its fields name none.
@@ -26,51 +25,47 @@ pub(crate) fn header_named(kind: u8, a: u64, b: u64, c: u64, d: u64) -> HeaderNa
 fn request_named(segments: u64, size: u64, id: u64, choice: u64) -> HeaderNamed
     ensures { λ r. ⌜ paperHeaderNamed r ≡ requestNamed segments size id choice ⌝ }
 {
-    match bytes_named(segments, size, id, choice) {
-        BytesNamed::Bytes(max_segments, max_adpu, invoke_id, service_choice) => {
-            HeaderNamed::Header(Header::ConfirmedRequest {
-                max_segments,
-                max_adpu,
-                invoke_id,
-                service_choice,
-            })
-        }
-        BytesNamed::Nothing => HeaderNamed::Nothing,
+    if fit_bytes(segments, size, id, choice) {
+        return HeaderNamed::Header(Header::ConfirmedRequest {
+            max_segments: segments as u8,
+            max_adpu: size as u8,
+            invoke_id: id as u8,
+            service_choice: choice as u8,
+        });
     }
+    HeaderNamed::Nothing
 }
 
 // The simple or complex acknowledgement of an invoke id and a service choice.
 fn acknowledgement_named(kind: u8, id: u64, choice: u64) -> HeaderNamed
     ensures { λ r. ⌜ paperHeaderNamed r ≡ acknowledgementNamed kind id choice ⌝ }
 {
-    match bytes_named(id, choice, 0, 0) {
-        BytesNamed::Bytes(invoke_id, service_choice, _, _) => match kind {
+    if fit_bytes(id, choice, 0, 0) {
+        return match kind {
             2 => HeaderNamed::Header(Header::SimpleAck {
-                invoke_id,
-                service_choice,
+                invoke_id: id as u8,
+                service_choice: choice as u8,
             }),
             3 => HeaderNamed::Header(Header::ComplexAck {
-                invoke_id,
-                service_choice,
+                invoke_id: id as u8,
+                service_choice: choice as u8,
             }),
             _ => HeaderNamed::Nothing,
-        },
-        BytesNamed::Nothing => HeaderNamed::Nothing,
+        };
     }
+    HeaderNamed::Nothing
 }
 
 // The segment acknowledgement of an invoke id, a sequence number and a window size.
 fn segment_named(id: u64, sequence: u64, window: u64) -> HeaderNamed
     ensures { λ r. ⌜ paperHeaderNamed r ≡ segmentNamed id sequence window ⌝ }
 {
-    match bytes_named(id, sequence, window, 0) {
-        BytesNamed::Bytes(invoke_id, sequence_num, proposed_window_size, _) => {
-            HeaderNamed::Header(Header::SegmentAck {
-                invoke_id,
-                sequence_num,
-                proposed_window_size,
-            })
-        }
-        BytesNamed::Nothing => HeaderNamed::Nothing,
+    if fit_bytes(id, sequence, window, 0) {
+        return HeaderNamed::Header(Header::SegmentAck {
+            invoke_id: id as u8,
+            sequence_num: sequence as u8,
+            proposed_window_size: window as u8,
+        });
     }
+    HeaderNamed::Nothing
 }

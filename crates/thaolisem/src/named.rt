@@ -2,8 +2,7 @@
 ghost use mathlib.Core.Path.{_≡_};
 ghost use Rattle.numbers.specs.Integer.{twosComplement};
 ghost use Rattle.thaolisem.specs.Value.{paperNamed, dateNamed, timeNamed, objectIdNamed, contentNamed, valueNamed};
-use crate::bytes::BytesNamed;
-use crate::bytes::bytes_named;
+use crate::bytes::fit_bytes;
 use values::ApplicationDataValue;
 use values::Date;
 use values::ObjectId;
@@ -76,34 +75,30 @@ fn date_named(year: u64, month: u64, day: u64, weekday: u64) -> ValueNamed
     if 65535 < year {
         return ValueNamed::Nothing;
     }
-    match bytes_named(month, day, weekday, 0) {
-        BytesNamed::Bytes(month, day, wday, _) => {
-            ValueNamed::Value(ApplicationDataValue::Date(Date {
-                year: year as u16,
-                month,
-                day,
-                wday,
-            }))
-        }
-        BytesNamed::Nothing => ValueNamed::Nothing,
+    if fit_bytes(month, day, weekday, 0) {
+        return ValueNamed::Value(ApplicationDataValue::Date(Date {
+            year: year as u16,
+            month: month as u8,
+            day: day as u8,
+            wday: weekday as u8,
+        }));
     }
+    ValueNamed::Nothing
 }
 
 // The time of an hour, a minute, a second and hundredths.
 fn time_named(hour: u64, minute: u64, second: u64, hundredths: u64) -> ValueNamed
     ensures { λ r. ⌜ paperNamed r ≡ timeNamed hour minute second hundredths ⌝ }
 {
-    match bytes_named(hour, minute, second, hundredths) {
-        BytesNamed::Bytes(hour, minute, second, hundredths) => {
-            ValueNamed::Value(ApplicationDataValue::Time(Time {
-                hour,
-                minute,
-                second,
-                hundredths,
-            }))
-        }
-        BytesNamed::Nothing => ValueNamed::Nothing,
+    if fit_bytes(hour, minute, second, hundredths) {
+        return ValueNamed::Value(ApplicationDataValue::Time(Time {
+            hour: hour as u8,
+            minute: minute as u8,
+            second: second as u8,
+            hundredths: hundredths as u8,
+        }));
     }
+    ValueNamed::Nothing
 }
 
 // The object identifier of a type and an instance.

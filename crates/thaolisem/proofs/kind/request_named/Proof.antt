@@ -1,29 +1,45 @@
--- `thaolisem::request_named` meets its contract: in each arm it is known whether the numbers are bytes.
+-- `thaolisem::request_named` meets its contract: whether the numbers fit a byte each is known at each return, and where they do none is cut.
 -- Assumes nothing.
 use borrow.Author.Needs.{needs}
-use mathlib.Core.Path.{sym, ap, _∙_}
-use Rattle.thaolisem.specs.Named.{paperBytes}
+use mathlib.Core.Path.{_≡_, sym, _∙_}
+use mathlib.Core.Bool.{true}
+use mir.Syntax.{w8}
+use mir.Val.{Fits}
+use Rattle.thaolisem.specs.Named.{fitBytes}
 use Rattle.thaolisem.specs.Header.{requestNamed}
+use Rattle.thaolisem.proofs.Fitting.{all-fit}
 use Rattle.thaolisem.proofs.kind.request_named.Statement.{statement}
 use Rattle.thaolisem.proofs.kind.request_named.Tie as tie
 
-bytes-named-requires : tie.Need-bytes-named-requires
-bytes-named-requires c κs = search needs
+known : (c : tie.Then1) → fitBytes (c .before .before .args .segments) (c .before .before .args .size) (c .before .before .args .id) (c .before .before .args .choice) ≡ true
+known c = sym (c .before .fit-bytes .ensures) ∙ c .if1 .taken
 
-enum-known-max-segments : tie.Need-enum-known-max-segments
-enum-known-max-segments c = search needs
+fit : (c : tie.Then1) → Fits w8 (c .before .before .args .segments) × Fits w8 (c .before .before .args .size) × Fits w8 (c .before .before .args .id) × Fits w8 (c .before .before .args .choice)
+fit c = all-fit (c .before .before .args .segments) (c .before .before .args .size) (c .before .before .args .id) (c .before .before .args .choice) (known c)
 
-enum-told : tie.Need-enum-told
-enum-told c = search needs
+fit-bytes-requires : tie.Need-fit-bytes-requires
+fit-bytes-requires c κs = search needs
+
+cast-t6 : tie.Need-cast-t6
+cast-t6 c = fit c .0
+
+cast-t7 : tie.Need-cast-t7
+cast-t7 c = fit c .1
+
+cast-t8 : tie.Need-cast-t8
+cast-t8 c = fit c .2
+
+cast-t9 : tie.Need-cast-t9
+cast-t9 c = fit c .3
 
 returns : tie.Need-returns
 unfolding requestNamed
-returns c = simp (sym (c .before .before .before .bytes-named .ensures) ∙ ap paperBytes (c .before .max-segments .given .1))
+returns c = simp (known c)
 
 returns-2 : tie.Need-returns-2
 unfolding requestNamed
-returns-2 c = simp (sym (c .before .before .bytes-named .ensures) ∙ ap paperBytes (c .enum-told .given .1))
+returns-2 c = simp (sym (c .before .fit-bytes .ensures) ∙ c .if1 .left)
 
 pub request-named-spec : {M : Type 1} → statement M
 request-named-spec =
-    tie.close (tie.spec bytes-named-requires enum-known-max-segments enum-told returns returns-2)
+    tie.close (tie.spec fit-bytes-requires cast-t6 cast-t7 cast-t8 cast-t9 returns returns-2)

@@ -1,29 +1,42 @@
--- `thaolisem::segment_named` meets its contract: in each arm it is known whether the numbers are bytes.
+-- `thaolisem::segment_named` meets its contract: whether the numbers fit a byte each is known at each return, and where they do none is cut.
 -- Assumes nothing.
 use borrow.Author.Needs.{needs}
-use mathlib.Core.Path.{sym, ap, _∙_}
-use Rattle.thaolisem.specs.Named.{paperBytes}
+use mathlib.Core.Path.{_≡_, sym, _∙_}
+use mathlib.Core.Bool.{true}
+use mir.Syntax.{w8}
+use mir.Val.{Fits}
+use Rattle.thaolisem.specs.Named.{fitBytes}
 use Rattle.thaolisem.specs.Header.{segmentNamed}
+use Rattle.thaolisem.proofs.Fitting.{all-fit}
 use Rattle.thaolisem.proofs.kind.segment_named.Statement.{statement}
 use Rattle.thaolisem.proofs.kind.segment_named.Tie as tie
 
-bytes-named-requires : tie.Need-bytes-named-requires
-bytes-named-requires c κs = search needs
+known : (c : tie.Then1) → fitBytes (c .before .before .args .id) (c .before .before .args .sequence) (c .before .before .args .window) 0 ≡ true
+known c = sym (c .before .fit-bytes .ensures) ∙ c .if1 .taken
 
-enum-known-invoke-id : tie.Need-enum-known-invoke-id
-enum-known-invoke-id c = search needs
+fit : (c : tie.Then1) → Fits w8 (c .before .before .args .id) × Fits w8 (c .before .before .args .sequence) × Fits w8 (c .before .before .args .window) × Fits w8 0
+fit c = all-fit (c .before .before .args .id) (c .before .before .args .sequence) (c .before .before .args .window) 0 (known c)
 
-enum-told : tie.Need-enum-told
-enum-told c = search needs
+fit-bytes-requires : tie.Need-fit-bytes-requires
+fit-bytes-requires c κs = search needs
+
+cast-t5 : tie.Need-cast-t5
+cast-t5 c = fit c .0
+
+cast-t6 : tie.Need-cast-t6
+cast-t6 c = fit c .1
+
+cast-t7 : tie.Need-cast-t7
+cast-t7 c = fit c .2
 
 returns : tie.Need-returns
 unfolding segmentNamed
-returns c = simp (sym (c .before .before .before .bytes-named .ensures) ∙ ap paperBytes (c .before .invoke-id .given .1))
+returns c = simp (known c)
 
 returns-2 : tie.Need-returns-2
 unfolding segmentNamed
-returns-2 c = simp (sym (c .before .before .bytes-named .ensures) ∙ ap paperBytes (c .enum-told .given .1))
+returns-2 c = simp (sym (c .before .fit-bytes .ensures) ∙ c .if1 .left)
 
 pub segment-named-spec : {M : Type 1} → statement M
 segment-named-spec =
-    tie.close (tie.spec bytes-named-requires enum-known-invoke-id enum-told returns returns-2)
+    tie.close (tie.spec fit-bytes-requires cast-t5 cast-t6 cast-t7 returns returns-2)
