@@ -56,6 +56,7 @@ pub fn put_line(
             place: put_refused(number, Refusal::LineNotHexadecimal, out, place),
         },
         Line::NoLine => LinePut::NoLine,
+        // Not met: the line's place is tested above, before the text's.
         Line::Refused(refusal) => LinePut::Refused(refusal),
     }
 }

@@ -49,7 +49,7 @@ mostNumbers = 4
 abbrev pub mostLetters : ℕ
 mostLetters = 15
 
--- the room that a line takes at most, and so from its word on
+-- the room that a line takes at most, from its word on and in all
 abbrev pub lastRoom : ℕ
 lastRoom = mostLetters + 1 + mostNumbers * numberRoom
 
