@@ -5,13 +5,13 @@ use mathlib.Core.Path.{_≡_, refl, ap, _∙_, subst}
 use mathlib.Core.Bool.{Bool, true, false}
 use mathlib.Core.List.{List}
 use native.Mathlib.Omega.{arith}
-use borrow.Author.Tests.{eqb-true, eqb-false}
 use lib.ListN.{length}
 use Rattle.types.specs.Choice.{if}
 use Rattle.types.specs.Tag.{Number, application, context, opening, closing, Tag, tag}
 use Rattle.types.specs.Refusal.{Carried, tagFound}
 use Rattle.types.specs.Answer.{Answer, accepted, refused, then}
 use Rattle.types.proofs.Choices.{either, read-on}
+use Rattle.types.proofs.Class.{same-exactly}
 use Rattle.tags.specs.Reading.{tagFrom, expectedFrom, sameNumber}
 use Rattle.tags.proofs.Exactly.{tag-found, block-has-no-value}
 use Rattle.bodies.specs.Scan.{Counted, unread, scanned, bodyBy, bodyOf, bodyFrom, bodyForOf, bodyForFrom}
@@ -54,16 +54,12 @@ module _ (P : Counted → Type 0) (allowance : ℕ) (xs : List ℕ) (place : ℕ
 
 -- the number expected, or another
 is-opening : (expected : ℕ) (m : Number) → sameNumber m (opening expected) ≡ true → m ≡ opening expected
-is-opening expected (opening n) e = ap opening (eqb-true n expected e)
-is-opening expected (closing n) e = let z : _≡_ {A = ℕ} 0 1 = cc in absurd (omega arith)
-is-opening expected (application n) e = let z : _≡_ {A = ℕ} 0 1 = cc in absurd (omega arith)
-is-opening expected (context n) e = let z : _≡_ {A = ℕ} 0 1 = cc in absurd (omega arith)
+is-opening expected m e = same-exactly m (opening expected) .0 e
 
 is-another : (expected : ℕ) (m : Number) → sameNumber m (opening expected) ≡ false → m ≡ opening expected → ⊥
-is-another expected (opening n) e f = let i : n ≡ expected = cc in eqb-false n expected e i
-is-another expected (closing n) e f = let z : _≡_ {A = ℕ} 0 1 = cc in omega arith
-is-another expected (application n) e f = let z : _≡_ {A = ℕ} 0 1 = cc in omega arith
-is-another expected (context n) e f = let z : _≡_ {A = ℕ} 0 1 = cc in omega arith
+is-another expected m e f =
+    let t : sameNumber m (opening expected) ≡ true = same-exactly m (opening expected) .1 f in
+    let z : _≡_ {A = ℕ} 0 1 = cc in omega arith
 
 -- what holds in each of the three ways holds of what `get_tagged_body_for_tag` answers
 module _ (P : Counted → Type 0) (expected allowance : ℕ) (xs : List ℕ) (place : ℕ)

@@ -1,13 +1,7 @@
-// Tagged bodies: what stands between an opening tag and its closing tag.
-ghost use mathlib.Core.Path.{_≡_};
-ghost use Rattle.types.specs.Refusal.{table};
-ghost use Rattle.bodies.specs.Scan.{paperBody, unread, bodyFrom, bodyForFrom};
-use crate::scan::scan;
-use tags::TagRead;
+// What asking for a body answers.
 use types::Refusal;
-use types::TagNumber;
 
-// Where a body lies, its number and the place after its closing tag; and how many tags were read after the opening.
+// Where a body lies, its number and the place after its closing tag, or why there is none; and how many tags were read after the opening.
 pub enum BodyRead {
     Body {
         start: usize,
@@ -20,39 +14,4 @@ pub enum BodyRead {
         refusal: Refusal,
         tags: usize,
     },
-}
-
-// The body whose opening tag is at a place.
-pub fn get_tagged_body(allowance: usize, buf: &[u8], place: usize) -> BodyRead
-    ensures { λ r. ⌜ paperBody r ≡ bodyFrom allowance (now (buf .entry)) place ⌝ }
-{
-    match tags::decode(buf, place) {
-        TagRead::Read(tag, next) => {
-            let found = tag.number;
-            match found {
-                TagNumber::ContextSpecificOpening(number) => scan(number, allowance, buf, next),
-                TagNumber::ContextSpecificClosing(_) => unread(Refusal::NoOpeningTag(tag)),
-                TagNumber::Application(_) => unread(Refusal::NoOpeningTag(tag)),
-                TagNumber::ContextSpecific(_) => unread(Refusal::NoOpeningTag(tag)),
-            }
-        }
-        TagRead::Refused(refusal) => unread(refusal),
-    }
-}
-
-// The body whose opening tag, of the number expected, is at a place.
-pub fn get_tagged_body_for_tag(expected: u8, allowance: usize, buf: &[u8], place: usize) -> BodyRead
-    ensures { λ r. ⌜ paperBody r ≡ bodyForFrom expected allowance (now (buf .entry)) place ⌝ }
-{
-    match tags::decode_expected(TagNumber::ContextSpecificOpening(expected), buf, place) {
-        TagRead::Read(_, next) => scan(expected, allowance, buf, next),
-        TagRead::Refused(refusal) => unread(refusal),
-    }
-}
-
-// A refusal before any tag after the opening was read.
-fn unread(refusal: Refusal) -> BodyRead
-    ensures { λ r. ⌜ paperBody r ≡ unread (table refusal .number) (table refusal .carries) ⌝ }
-{
-    BodyRead::Refused { refusal, tags: 0 }
 }

@@ -7,7 +7,7 @@ ghost use Rattle.bodies.specs.Plain.{plainLength};
 use types::Tag;
 use types::TagNumber;
 
-// The number of bytes of content that follow a tag.
+// How many bytes of content follow a tag: none behind a Boolean, an opening or a closing, else its value.
 pub fn content_length(tag: Tag) -> usize
     ensures { λ r. ⌜ r ≡ contentLength (tagOf tag) ⌝ }
     ensures { λ r. ⌜ r < 2 ^ 32 ⌝ }
@@ -26,7 +26,7 @@ pub fn content_length(tag: Tag) -> usize
     }
 }
 
-// The number of bytes of the plain item that begins with a byte, where that byte is its whole tag; else 0.
+// How many bytes the item has that begins with this byte, where the byte is its whole tag and neither opens nor closes; else 0.
 pub(crate) fn plain_length(first: u8) -> usize
     ensures { λ r. ⌜ r ≡ plainLength first ⌝ }
     ensures { λ r. ⌜ r ≤ 5 ⌝ }

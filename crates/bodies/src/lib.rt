@@ -2,10 +2,13 @@
 mod body;
 mod item;
 mod scan;
+mod tagged;
 
 pub use body::BodyRead;
-pub use body::get_tagged_body;
-pub use body::get_tagged_body_for_tag;
 pub use item::content_length;
+pub use tagged::get_tagged_body;
+pub use tagged::get_tagged_body_for_tag;
+
+// A body's view is a part of the buffer, handed over by the layer below.
 pub use numbers::PartRead;
 pub use numbers::part;

@@ -12,14 +12,14 @@ use types::Refusal;
 use types::Tag;
 use types::TagNumber;
 
-// What the next tag means for a scan: a refusal, the body's closing tag with the place after it, or an item with the openings unclosed and the place after it.
+// What the tag at a place means for a scan: it is refused, it closes the body and ends at that place, or the scan goes on from a place, with so many openings unclosed.
 enum Step {
     Refused(Refusal),
     Closed(usize),
     Onward { unclosed: usize, place: usize },
 }
 
-// What a tag that was read means for the scan of a body of that number, where so many more of its openings than closings were passed.
+// What a tag that ends at `next` means for the scan of a body of that number, where so many of its openings are unclosed.
 fn step_after(number: u8, unclosed: usize, tag: Tag, next: usize) -> Step
     requires { ⌜ (unclosed + 1 < 2 ^ 64) × (next + 2 ^ 32 < 2 ^ 64) ⌝ }
     ensures { λ r. ⌜ paperStep r ≡ scanStepAfter number unclosed (tagOf tag) next ⌝ }
@@ -52,7 +52,7 @@ fn step_after(number: u8, unclosed: usize, tag: Tag, next: usize) -> Step
     }
 }
 
-// What the tag at a place, which may be past the end, means for the scan.
+// What the tag at a place, which may be past the end, means for that scan.
 fn step_at(number: u8, unclosed: usize, buf: &[u8], place: usize) -> Step
     requires { ⌜ (unclosed + 1 < 2 ^ 64) × (length (now buf) ≤ 65535) ⌝ }
     ensures { λ r. ⌜ paperStep r ≡ scanStepFrom number unclosed (now (buf .entry)) place ⌝ }
@@ -73,7 +73,7 @@ fn step_at(number: u8, unclosed: usize, buf: &[u8], place: usize) -> Step
     }
 }
 
-// The body of that number whose first item is at a start.
+// Finds the closing tag of the body of that number that starts at a place, reading at most so many tags; answers where the body lies.
 pub(crate) fn scan(number: u8, allowance: usize, buf: &[u8], start: usize) -> BodyRead
     requires { ⌜ length (now buf) ≤ 65535 ⌝ }
     ensures { λ r. ⌜ paperBody r ≡ scanFrom allowance number start 0 0 (now (buf .entry)) start ⌝ }
@@ -96,11 +96,11 @@ pub(crate) fn scan(number: u8, allowance: usize, buf: &[u8], start: usize) -> Bo
                 };
             }
             Step::Onward {
-                unclosed: d,
-                place: p,
+                unclosed: open,
+                place: next,
             } => {
-                unclosed = d;
-                place = p;
+                unclosed = open;
+                place = next;
             }
         }
         tags += 1;

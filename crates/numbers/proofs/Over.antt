@@ -25,15 +25,15 @@ pub none-written : (xs : List ℕ) (end : ℕ) → xs ≡ take end xs ++ drop en
 none-written xs end = sym (take-append-drop end xs)
 
 -- one byte more
-pub byte-written : (xs : List ℕ) (at k v : ℕ) (rest : List ℕ) → at < length xs
-    → set (take (at + 1) xs ++ (lowBytes k v ++ rest)) at (v / 256 ^ k % 256) ≡ take at xs ++ (lowBytes (k + 1) v ++ rest)
-byte-written xs at k v rest h =
-    let e : take (at + 1) xs ++ (lowBytes k v ++ rest) ≡ take at xs ++ (getD xs at 0 ∷ (lowBytes k v ++ rest)) = rw (add-one at, take-suc xs at 0 h, append-assoc) in
-    let l : length (take at xs) ≡ at = length-take-le at xs (omega arith) in
+pub byte-written : (xs : List ℕ) (place k v : ℕ) (rest : List ℕ) → place < length xs
+    → set (take (place + 1) xs ++ (lowBytes k v ++ rest)) place (v / 256 ^ k % 256) ≡ take place xs ++ (lowBytes (k + 1) v ++ rest)
+byte-written xs place k v rest h =
+    let e : take (place + 1) xs ++ (lowBytes k v ++ rest) ≡ take place xs ++ (getD xs place 0 ∷ (lowBytes k v ++ rest)) = rw (add-one place, take-suc xs place 0 h, append-assoc) in
+    let l : length (take place xs) ≡ place = length-take-le place xs (omega arith) in
     let b : ℕ = v / 256 ^ k % 256 in
-    ap (λ (ys : List ℕ). set ys at b) e
-    ∙ ap (λ (m : ℕ). set (take at xs ++ (getD xs at 0 ∷ (lowBytes k v ++ rest))) m b) (sym l)
-    ∙ set-append-seam (take at xs) (getD xs at 0) (lowBytes k v ++ rest) b
+    ap (λ (ys : List ℕ). set ys place b) e
+    ∙ ap (λ (m : ℕ). set (take place xs ++ (getD xs place 0 ∷ (lowBytes k v ++ rest))) m b) (sym l)
+    ∙ set-append-seam (take place xs) (getD xs place 0) (lowBytes k v ++ rest) b
     ∙ rw (low-bytes-more k v)
 
 -- all of them

@@ -17,7 +17,7 @@ pub enum SignedRead {
     Refused(Refusal),
 }
 
-// Where an integer's content of 1 to 8 bytes lies.
+// Finds the content of an integer, which has 1 to 8 bytes.
 fn content(len: u32, buf: &[u8], place: usize) -> SliceRead
     ensures { λ r. ⌜ paperSlice r ≡ contentFrom len (now (buf .entry)) place ⌝ }
 {
@@ -36,7 +36,7 @@ fn content(len: u32, buf: &[u8], place: usize) -> SliceRead
     read_slice(len, buf, place)
 }
 
-// The unsigned integer whose content has this length.
+// Reads the unsigned integer whose content, of this length, is at a place.
 pub fn decode_unsigned(len: u32, buf: &[u8], place: usize) -> UnsignedRead
     ensures { λ r. ⌜ paperUnsigned r ≡ unsignedFrom len (now (buf .entry)) place ⌝ }
 {
@@ -50,7 +50,7 @@ pub fn decode_unsigned(len: u32, buf: &[u8], place: usize) -> UnsignedRead
     }
 }
 
-// The signed integer whose content has this length.
+// Reads the signed integer whose content, of this length, is at a place.
 pub fn decode_signed(len: u32, buf: &[u8], place: usize) -> SignedRead
     ensures { λ r. ⌜ paperSigned r ≡ signedFrom len (now (buf .entry)) place ⌝ }
 {
@@ -64,7 +64,7 @@ pub fn decode_signed(len: u32, buf: &[u8], place: usize) -> SignedRead
     }
 }
 
-// The number that bytes hold in two's complement, from the unsigned one that they hold.
+// The signed integer that so many bytes hold in two's complement, from the unsigned one that they hold.
 fn signed(unsigned: u64, count: u32) -> i64
     requires { ⌜ (0 < count) × (count < 9) × (unsigned < 256 ^ count) ⌝ }
     ensures { λ r. ⌜ r ≡ twosComplement count unsigned ⌝ }
@@ -96,7 +96,7 @@ pub fn signed_length(value: i64) -> usize
     unsigned_length(magnitude(value) * 2)
 }
 
-// A signed integer, or one less than its magnitude where it is negative.
+// A signed integer without its sign: itself, or one less than its magnitude where it is negative.
 pub(crate) fn magnitude(value: i64) -> u64
     ensures { λ r. ⌜ r ≡ mag value ⌝ }
     ensures { λ r. ⌜ r < 2 ^ 63 ⌝ }

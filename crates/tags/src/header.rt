@@ -14,7 +14,7 @@ pub(crate) struct Header {
     pub len: usize,
 }
 
-// The bytes of a tag.
+// Builds the bytes of a tag.
 pub(crate) fn built(tag: Tag) -> Header
     ensures { λ r. ⌜ r ≡ holding (tagBytes (tagOf tag)) ⌝ }
 {
@@ -63,7 +63,7 @@ fn one_byte(byte: u8) -> Header
     }
 }
 
-// A context number, in the field or in a second byte, with the low bits.
+// The header of a context number, in the field or in a second byte, with the low bits.
 fn context(number: u8, low: u8) -> Header
     requires { ⌜ low < 8 ⌝ }
     ensures { λ r. ⌜ r ≡ holding (contextBytes number low) ⌝ }

@@ -1,4 +1,15 @@
-// Tags read at a place of a buffer, and what is expected of them.
+// Tags read at a place of a buffer, and what is expected of them. A tag's bytes (ASHRAE 135, 20.2.1):
+//
+//      7   6   5   4   3   2   1   0
+//    +---------------+---+-----------+   +---------+   +-------------------------+
+//    | number        | c | low bits  |   | number  |   | value                   |
+//    +---------------+---+-----------+   +---------+   +-------------------------+
+//      the first byte                      where         where the low bits are 5
+//                                          c is 1 and the field 15
+//
+//    c         class: 0 application, 1 context
+//    low bits  0 to 4 the value; 5 the value follows; 6 opens and 7 closes a block, where c is 1 and the field below 15; else they tell 0
+//    value     0 to 253 in one byte; 254 and two bytes; 255 and four bytes, most significant first
 ghost use mathlib.Core.Path.{_≡_};
 ghost use Prim.Native.Nat.{_≤_};
 ghost use lib.ListN.{length};
@@ -26,7 +37,7 @@ enum NumberRead {
     Refused(Refusal),
 }
 
-// The tag at a place.
+// Reads the tag at a place.
 pub fn decode(buf: &[u8], place: usize) -> TagRead
     ensures { λ r. ⌜ paperTag r ≡ tagFrom (now (buf .entry)) place ⌝ }
 {
@@ -36,7 +47,7 @@ pub fn decode(buf: &[u8], place: usize) -> TagRead
     }
 }
 
-// The tag at a place, where it has the number that is expected.
+// Reads the tag at a place, which is to have the class and number expected.
 pub fn decode_expected(expected: TagNumber, buf: &[u8], place: usize) -> TagRead
     ensures { λ r. ⌜ paperTag r ≡ expectedFrom (numberOf expected) (now (buf .entry)) place ⌝ }
 {
@@ -53,7 +64,7 @@ pub fn decode_expected(expected: TagNumber, buf: &[u8], place: usize) -> TagRead
     }
 }
 
-// Whether a tag has the value that is expected.
+// Whether a tag has the value expected.
 pub fn expect_value(tag: Tag, value: u32) -> Outcome
     ensures { λ r. ⌜ paperOutcome r ≡ expectedValue value (tagOf tag) ⌝ }
 {
@@ -64,7 +75,7 @@ pub fn expect_value(tag: Tag, value: u32) -> Outcome
     }
 }
 
-// Whether a tag has the number that is expected.
+// Whether a tag has the class and number expected.
 pub fn expect_number(tag: Tag, number: TagNumber) -> Outcome
     ensures { λ r. ⌜ paperOutcome r ≡ expectedNumber (numberOf number) (tagOf tag) ⌝ }
 {
@@ -76,7 +87,7 @@ pub fn expect_number(tag: Tag, number: TagNumber) -> Outcome
     }
 }
 
-// The tag whose first byte is known.
+// Reads on the tag whose first byte, before this place, is known.
 fn tag_after(first: u8, buf: &[u8], place: usize) -> TagRead
     requires { ⌜ (length (now buf) ≤ 65535) × (place ≤ length (now buf)) ⌝ }
     ensures { λ r. ⌜ paperTag r ≡ tagAfter first (now (buf .entry)) place ⌝ }
@@ -90,7 +101,7 @@ fn tag_after(first: u8, buf: &[u8], place: usize) -> TagRead
     }
 }
 
-// The class and number that a tag's first byte tells, with the byte after it where they are long.
+// Reads on the class and number that a tag's first byte tells: the number is the byte at this place where it is long.
 fn number_after(first: u8, buf: &[u8], place: usize) -> NumberRead
     ensures { λ r. ⌜ paperNumber r ≡ numberFrom first (now (buf .entry)) place ⌝ }
 {
@@ -120,7 +131,7 @@ fn number_after(first: u8, buf: &[u8], place: usize) -> NumberRead
     NumberRead::Number(TagNumber::ContextSpecific(field), place)
 }
 
-// The value that a tag's low bits tell, with the bytes after its number where it is long.
+// Reads on the value that a tag's low bits tell: it is in the bytes from this place on where it is long.
 fn value_after(low: u8, buf: &[u8], place: usize) -> WordRead
     requires { ⌜ (length (now buf) ≤ 65535) × (place ≤ length (now buf)) ⌝ }
     ensures { λ r. ⌜ paperWord r ≡ tagValueFrom low (now (buf .entry)) place ⌝ }

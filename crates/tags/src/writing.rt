@@ -33,7 +33,7 @@ pub fn begin(tag: Tag, content: u32, buf: &mut [u8], place: usize) -> Written
     }
 }
 
-// The same for a tag of any length.
+// Writes a tag of any length so: built apart, and then copied out.
 fn begin_long(tag: Tag, content: u32, buf: &mut [u8], place: usize) -> Written
     ensures { λ r. ⌜ left (paperWritten r) (now (buf .exit)) ≡ tagBefore (tagOf tag) content (now (buf .entry)) place ⌝ }
 {

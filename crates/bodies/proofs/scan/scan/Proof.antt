@@ -45,8 +45,8 @@ returns-2 c =
     let a = c .before .before .before .before .before .before .before .args in
     turned (a .number) (a .start) (a .allowance) (l .tags) (l .unclosed) (a .buf .now) (l .place) (l .inv .3) (c .before .before .before .before .loop-test .taken) (sym (c .before .before .before .step-at .ensures) ∙ ap paperStep (c .before .next .given .1))
 
-enum-known-d : tie.Need-enum-known-d Inv-loop μ-loop
-enum-known-d c = search needs
+enum-known-open : tie.Need-enum-known-open Inv-loop μ-loop
+enum-known-open c = search needs
 
 add-tags : tie.Need-add-tags Inv-loop μ-loop
 add-tags c = search needs
@@ -58,8 +58,8 @@ loop-again : tie.Need-loop-again Inv-loop μ-loop
 loop-again c =
     let l = c .before .before .before .before .before .loop in
     let a = c .before .before .before .before .before .before .before .args in
-    let e : scanStepFrom (a .number) (l .unclosed) (a .buf .now) (l .place) ≡ onward (c .before .d .given .0 .0) (c .before .d .given .0 .1 .0) = sym (c .before .before .before .step-at .ensures) ∙ ap paperStep (c .before .d .given .1) in
-    let o : (c .before .d .given .0 .0 ≤ l .unclosed + 1) × (l .place < c .before .d .given .0 .1 .0) = onward-moves (a .number) (l .unclosed) (a .buf .now) (l .place) e in
+    let e : scanStepFrom (a .number) (l .unclosed) (a .buf .now) (l .place) ≡ onward (c .before .open .given .0 .0) (c .before .open .given .0 .1 .0) = sym (c .before .before .before .step-at .ensures) ∙ ap paperStep (c .before .open .given .1) in
+    let o : (c .before .open .given .0 .0 ≤ l .unclosed + 1) × (l .place < c .before .open .given .0 .1 .0) = onward-moves (a .number) (l .unclosed) (a .buf .now) (l .place) e in
     (omega arith, omega arith, omega arith, sym (turned (a .number) (a .start) (a .allowance) (l .tags) (l .unclosed) (a .buf .now) (l .place) (l .inv .3) (c .before .before .before .before .loop-test .taken) e))
 
 returns-3 : tie.Need-returns-3 Inv-loop μ-loop
@@ -69,4 +69,4 @@ returns-3 c =
     spent (a .number) (a .start) (a .allowance) (l .tags) (l .unclosed) (a .buf .now) (l .place) (l .inv .3) (c .loop-test .left)
 
 pub scan-spec : {M : Type 1} → statement M
-scan-spec = tie.close (tie.spec Inv-loop μ-loop loop-holds step-at-requires enum-known-refusal returns enum-known-next sub-t14 add-t15 returns-2 enum-known-d add-tags loop-less loop-again returns-3)
+scan-spec = tie.close (tie.spec Inv-loop μ-loop loop-holds step-at-requires enum-known-refusal returns enum-known-next sub-t14 add-t15 returns-2 enum-known-open add-tags loop-less loop-again returns-3)

@@ -6,8 +6,8 @@ use Rattle.types.specs.Tag.{opening}
 use Rattle.tags.specs.Reading.{paperTag}
 use Rattle.bodies.proofs.Ways.{small-expected}
 use Rattle.bodies.specs.Scan.{bodyForFrom}
-use Rattle.bodies.proofs.body.get_tagged_body_for_tag.Statement.{statement}
-use Rattle.bodies.proofs.body.get_tagged_body_for_tag.Tie as tie
+use Rattle.bodies.proofs.tagged.get_tagged_body_for_tag.Statement.{statement}
+use Rattle.bodies.proofs.tagged.get_tagged_body_for_tag.Tie as tie
 
 decode-expected-requires : tie.Need-decode-expected-requires
 decode-expected-requires c κs = search needs

@@ -5,8 +5,8 @@ use mathlib.Core.Path.{sym, ap, _∙_}
 use Rattle.tags.specs.Reading.{paperTag}
 use Rattle.tags.proofs.Exactly.{tag-found}
 use Rattle.bodies.specs.Scan.{bodyFrom}
-use Rattle.bodies.proofs.body.get_tagged_body.Statement.{statement}
-use Rattle.bodies.proofs.body.get_tagged_body.Tie as tie
+use Rattle.bodies.proofs.tagged.get_tagged_body.Statement.{statement}
+use Rattle.bodies.proofs.tagged.get_tagged_body.Tie as tie
 
 decode-requires : tie.Need-decode-requires
 decode-requires c κs = search needs
