@@ -58,10 +58,10 @@ use Rattle.values.proofs.Back.{Held}
 use Rattle.headers.specs.Header as headers
 use Rattle.headers.specs.Reading.{paperHeader}
 use Rattle.headers.specs.declared.header.Header.{Header}
-use Rattle.headers.specs.declared.header.Header.the-variants as h
 use Rattle.headers.specs.declared.reading.HeaderRead.{HeaderRead}
 use Rattle.headers.specs.declared.reading.HeaderRead.the-variants as hr
-use Rattle.headers.proofs.Single.{single-header-read}
+use Rattle.headers.proofs.Control.{ofType, type-back}
+use Rattle.headers.proofs.Single.{ofFields, header-back, single-header-read}
 use Rattle.thaolisem.specs.Told.{toldRefusal, toldTag, toldUnsigned, toldSigned, toldBody, toldWalk, valueTold, toldValue, headerTold, toldHeader, toldCheck, toldWrite}
 
 -- what can be told back from its numbers is told apart by them
@@ -243,24 +243,17 @@ value-again (v.Refused x) h = refusal-again valueFields x 0
 pub single-told-value : (x y : ValueRead) → HeldRead x → HeldRead y → toldValue (paperValue x) ≡ toldValue (paperValue y) → x ≡ y
 single-told-value x y hx hy e = single-read x y (apart toldValue valueBack (paperValue x) (paperValue y) (value-again x hx) (value-again y hy) e)
 
-abbrev headerIn : List ℕ → headers.Header
-headerIn l =
-    if (eqb (at l 2) 0) (headers.header headers.request (headers.nibbles (at l 3) (at l 4) ∷ headers.number (at l 5) ∷ headers.choice (at l 6) ∷ []))
-    (if (eqb (at l 2) 2) (headers.header headers.simple (headers.number (at l 3) ∷ headers.choice (at l 4) ∷ []))
-    (if (eqb (at l 2) 3) (headers.header headers.complex (headers.number (at l 3) ∷ headers.choice (at l 4) ∷ []))
-    (headers.header headers.segment (headers.number (at l 3) ∷ headers.number (at l 4) ∷ headers.number (at l 5) ∷ []))))
-
 abbrev headerFields : List ℕ → Answer headers.Header
-headerFields l = accepted (headerIn l) (at l 1)
+headerFields l = accepted (headers.headerOf (ofFields (ofType (at l 2)) (at l 3) (at l 4) (at l 5) (at l 6))) (at l 1)
 
 abbrev headerBack : List ℕ → Answer headers.Header
 headerBack = answer headerFields
 
 kind-again : (x : Header) (next : ℕ) → headerBack (headerTold (headers.headerOf x) next) ≡ accepted (headers.headerOf x) next
-kind-again (h.ConfirmedRequest segments size id c) next = refl
-kind-again (h.SimpleAck id c) next = refl
-kind-again (h.ComplexAck id c) next = refl
-kind-again (h.SegmentAck id sequence window) next = refl
+kind-again x next =
+    let ns = headers.fieldNumbers (headers.headerOf x .fields) in
+    ap (λ (k : headers.Kind). accepted (headers.headerOf (ofFields k (at ns 0) (at ns 1) (at ns 2) (at ns 3))) next) (type-back (headers.headerOf x .kind))
+    ∙ ap (λ (y : Header). accepted (headers.headerOf y) next) (header-back x)
 
 header-again : (x : HeaderRead) → headerBack (toldHeader (paperHeader x)) ≡ paperHeader x
 header-again (hr.Read x next) = kind-again x next

@@ -74,18 +74,11 @@ abbrev pub toldValue : Answer values.Value → List ℕ
 toldValue (accepted v next) = valueTold v next
 toldValue (refused n c) = toldRefusal n c 0
 
--- the numbers of a header's fields, in their order
-abbrev pub fieldNumbers : List headers.FieldValue → List ℕ
-fieldNumbers [] = []
-fieldNumbers (headers.nibbles a b ∷ vs) = a ∷ b ∷ fieldNumbers vs
-fieldNumbers (headers.number n ∷ vs) = n ∷ fieldNumbers vs
-fieldNumbers (headers.choice c ∷ vs) = c ∷ fieldNumbers vs
-
 -- a header: next place, its PDU type, its fields in their order, with 0 for those that it has not
 abbrev pub headerTold : headers.Header → ℕ → List ℕ
 headerTold h next =
-    eight 0 next (headers.rowOf (h .kind) .pduType) (getD (fieldNumbers (h .fields)) 0 0) (getD (fieldNumbers (h .fields)) 1 0)
-    (getD (fieldNumbers (h .fields)) 2 0) (getD (fieldNumbers (h .fields)) 3 0) 0
+    let ns = headers.fieldNumbers (h .fields) in
+    eight 0 next (headers.rowOf (h .kind) .pduType) (getD ns 0 0) (getD ns 1 0) (getD ns 2 0) (getD ns 3 0) 0
 
 abbrev pub toldHeader : Answer headers.Header → List ℕ
 toldHeader (accepted h next) = headerTold h next

@@ -1,6 +1,5 @@
 // The headers of confirmed services, read and written.
 ghost use mathlib.Core.Path.{_≡_};
-ghost use mathlib.Core.List.{[], _∷_};
 ghost use Rattle.headers.specs.Reading.{headerFrom};
 ghost use Rattle.headers.specs.Header.{headerOf};
 ghost use Rattle.thaolisem.specs.Told.{toldHeader, headerTold, toldWrite};
@@ -28,45 +27,21 @@ pub extern "C" fn thaolisem_decode_header(buf: &[u8], place: usize, answer: &mut
     }
 }
 
-// A header by its PDU type and its fields in their order, with the place after it.
+// The eight numbers of a header, by its PDU type and its fields in their order, and of the place after it.
 fn told(header: Header, next: usize) -> [u64; 8]
     ensures { λ r. ⌜ r ≡ headerTold (headerOf header) next ⌝ }
 {
-    match header {
-        Header::ConfirmedRequest {
-            max_segments,
-            max_adpu,
-            invoke_id,
-            service_choice,
-        } => eight(0, max_segments, max_adpu, invoke_id, service_choice, next),
-        Header::SimpleAck {
-            invoke_id,
-            service_choice,
-        } => eight(2, invoke_id, service_choice, 0, 0, next),
-        Header::ComplexAck {
-            invoke_id,
-            service_choice,
-        } => eight(3, invoke_id, service_choice, 0, 0, next),
-        Header::SegmentAck {
-            invoke_id,
-            sequence_num,
-            proposed_window_size,
-        } => eight(4, invoke_id, sequence_num, proposed_window_size, 0, next),
-    }
-}
-
-// A type, four fields and the place after them.
-fn eight(kind: u64, a: u8, b: u8, c: u8, d: u8, next: usize) -> [u64; 8]
-    ensures { λ r. ⌜ r ≡ 0 ∷ next ∷ kind ∷ a ∷ b ∷ c ∷ d ∷ 0 ∷ [] ⌝ }
-{
+    let description = header.described();
+    let kind = description.kind;
+    let fields = description.fields;
     [
         0,
         next as u64,
-        kind,
-        a as u64,
-        b as u64,
-        c as u64,
-        d as u64,
+        kind.row().number as u64,
+        fields[0] as u64,
+        fields[1] as u64,
+        fields[2] as u64,
+        fields[3] as u64,
         0,
     ]
 }
