@@ -1,6 +1,5 @@
 -- `thaolisem::fit_bytes` meets its contract: at each return the tests that led there say which case of `fitBytes` holds.
 -- Assumes nothing.
-use borrow.Author.Needs.{needs}
 use borrow.Author.Tests.{lt-ltb, le-ltb}
 use Rattle.thaolisem.specs.Named.{fitBytes}
 use Rattle.thaolisem.proofs.bytes.fit_bytes.Statement.{statement}

@@ -5,7 +5,6 @@ use native.Mathlib.Omega.{arith}
 use Prim.Native.Nat.{_%_}
 use mathlib.Core.Path.{_≡_, _∙_}
 use borrow.Author.Tests.{lt-ltb, le-ltb}
-use Rattle.types.specs.Tag.{applicationOf}
 use Rattle.thaolisem.proofs.tag.application_named.Statement.{statement}
 use Rattle.thaolisem.proofs.tag.application_named.Tie as tie
 
