@@ -18,7 +18,7 @@ use Rattle.numbers.specs.Integer.{Bytes}
 use Rattle.numbers.specs.Reading.{sliceFrom}
 use Rattle.numbers.proofs.Found.{slice-found, slice-at}
 use Rattle.values.specs.Date.{Date, dateOf, date, dateUnder, IsDate, ofFields, dateBytes, dateWritable, DateWrites}
-use Rattle.values.specs.declared.date.Date as program
+use Rattle.values.specs.declared.value.Date as program
 use Rattle.values.proofs.Standing.{Stood, StoodOr, four-bytes, first-byte, later-byte}
 
 -- four bytes are a date, whatever the length is called

@@ -20,7 +20,7 @@ use Rattle.numbers.proofs.Found.{fixed-found, fixed-at}
 use Rattle.numbers.proofs.Value.{value-lt}
 use Rattle.numbers.proofs.Low.{low-bytes-stand, low-bytes-of-value}
 use Rattle.values.specs.ObjectId.{ObjectId, idOf, identifier, objectIdUnder, IsObjectId, objectIdBytes, objectIdWritable, ObjectIdWrites}
-use Rattle.values.specs.declared.object_id.ObjectId as program
+use Rattle.values.specs.declared.value.ObjectId as program
 use Rattle.values.proofs.Standing.{Stood, StoodOr}
 
 pub object-id-or : (len : ℕ) (xs : List ℕ) (place : ℕ) → StoodOr (λ (p : ℕ). IsObjectId len) xs place (objectIdUnder len xs place)

@@ -6,12 +6,10 @@ use lib.Dec.{ltb, eqb}
 use lib.ListN.{getD}
 use Rattle.types.specs.Choice.{if}
 use Rattle.types.specs.Refusal.{amount}
-use Rattle.types.specs.Answer.{Answer, accepted, refused, refusal, then}
+use Rattle.types.specs.Answer.{Answer, accepted, refused, then}
 use Rattle.types.specs.Writing.{Writable, can, unwritable}
 use Rattle.numbers.specs.Reading.{sliceFrom}
-use Rattle.values.specs.declared.date.Date as program
-use Rattle.values.specs.declared.date.DateRead.{DateRead}
-use Rattle.values.specs.declared.date.DateRead.the-variants as r
+use Rattle.values.specs.declared.value.Date as program
 
 pub record Date : Type 0 where
   pub year : ℕ
@@ -46,7 +44,3 @@ dateWritable d = if (ltb (d .year) 1900) unwritable (if (ltb 2155 (d .year)) unw
 
 abbrev pub DateWrites : Date → Type 0
 DateWrites d = (1900 ≤ d .year) × (d .year ≤ 2155)
-
-abbrev pub paperDate : DateRead → Answer Date
-paperDate (r.Date x next) = accepted (dateOf x) next
-paperDate (r.Refused x) = refusal x

@@ -7,13 +7,11 @@ use lib.Dec.{ltb, eqb}
 use lib.ListN.{length}
 use Rattle.types.specs.Choice.{if}
 use Rattle.types.specs.Refusal.{amount}
-use Rattle.types.specs.Answer.{Answer, accepted, refused, refusal, then}
+use Rattle.types.specs.Answer.{Answer, accepted, refused, then}
 use Rattle.types.specs.Writing.{Writable, can, unwritable}
 use Rattle.numbers.specs.Integer.{lowBytes, unsignedValue}
 use Rattle.numbers.specs.Reading.{fixedFrom}
-use Rattle.values.specs.declared.object_id.ObjectId as program
-use Rattle.values.specs.declared.object_id.ObjectIdRead.{ObjectIdRead}
-use Rattle.values.specs.declared.object_id.ObjectIdRead.the-variants as r
+use Rattle.values.specs.declared.value.ObjectId as program
 
 pub record ObjectId : Type 0 where
   pub type : ℕ
@@ -48,7 +46,3 @@ objectIdWritable o = if (ltb 1023 (o .type)) unwritable (if (ltb 4194303 (o .ins
 
 abbrev pub ObjectIdWrites : ObjectId → Type 0
 ObjectIdWrites o = (o .type ≤ 1023) × (o .instance ≤ 4194303)
-
-abbrev pub paperObjectId : ObjectIdRead → Answer ObjectId
-paperObjectId (r.ObjectId x next) = accepted (idOf x) next
-paperObjectId (r.Refused x) = refusal x

@@ -6,10 +6,8 @@ use lib.Dec.{ltb, eqb}
 use lib.ListN.{length, getD}
 use Rattle.types.specs.Choice.{if}
 use Rattle.types.specs.Refusal.{amount}
-use Rattle.types.specs.Answer.{Answer, accepted, refused, refusal}
-use Rattle.values.specs.declared.time.Time as program
-use Rattle.values.specs.declared.time.TimeRead.{TimeRead}
-use Rattle.values.specs.declared.time.TimeRead.the-variants as r
+use Rattle.types.specs.Answer.{Answer, accepted, refused}
+use Rattle.values.specs.declared.value.Time as program
 
 pub record Time : Type 0 where
   pub hour : ℕ
@@ -37,7 +35,3 @@ pub data IsTime : ℕ → List ℕ → Time → Type 0 where
 -- the bytes that are written for it
 abbrev pub timeBytes : Time → List ℕ
 timeBytes t = t .hour ∷ t .minute ∷ t .second ∷ t .hundredths ∷ []
-
-abbrev pub paperTime : TimeRead → Answer Time
-paperTime (r.Time x next) = accepted (timeOf x) next
-paperTime (r.Refused x) = refusal x

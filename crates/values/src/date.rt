@@ -5,8 +5,13 @@ ghost use Rattle.types.specs.Answer.{paperOutcome};
 ghost use Rattle.types.specs.Tag.{application};
 ghost use Rattle.types.specs.Writing.{paperWritten, left};
 ghost use Rattle.tags.specs.Item.{itemTo};
-ghost use Rattle.values.specs.Date.{dateOf, dateUnder, dateBytes, dateWritable, DateWrites, paperDate};
+ghost use Rattle.values.specs.Date.{dateOf, dateUnder, dateBytes, dateWritable, DateWrites};
+ghost use Rattle.values.specs.Reading.{paperValue};
+ghost use Rattle.values.specs.Value.{onDate, cased};
 ghost use Rattle.values.specs.Writing.{outcomeOf};
+use crate::value::ApplicationDataValue;
+use crate::value::Date;
+use crate::value_read::ValueRead;
 use numbers::SliceRead;
 use types::ApplicationTagNumber;
 use types::Outcome;
@@ -14,26 +19,12 @@ use types::Refusal;
 use types::TagNumber;
 use types::Written;
 
-// A date: its year is a byte plus 1900, the other fields are bytes as they stand.
-pub struct Date {
-    pub year: u16,
-    pub month: u8,
-    pub day: u8,
-    pub wday: u8,
-}
-
-// A date and the place after it.
-pub(crate) enum DateRead {
-    Date(Date, usize),
-    Refused(Refusal),
-}
-
 // The date of four bytes; another length is refused.
-pub(crate) fn read_date(len: u32, buf: &[u8], place: usize) -> DateRead
-    ensures { λ r. ⌜ paperDate r ≡ dateUnder len (now (buf .entry)) place ⌝ }
+pub(crate) fn read_date(len: u32, buf: &[u8], place: usize) -> ValueRead
+    ensures { λ r. ⌜ paperValue r ≡ cased onDate (dateUnder len (now (buf .entry)) place) ⌝ }
 {
     if len != 4 {
-        return DateRead::Refused(Refusal::LengthNotAllowed(len));
+        return ValueRead::Refused(Refusal::LengthNotAllowed(len));
     }
     match tags::read_slice(4, buf, place) {
         SliceRead::Slice {
@@ -47,9 +38,9 @@ pub(crate) fn read_date(len: u32, buf: &[u8], place: usize) -> DateRead
                 day: buf[start + 2],
                 wday: buf[start + 3],
             };
-            DateRead::Date(date, next)
+            ValueRead::Value(ApplicationDataValue::Date(date), next)
         }
-        SliceRead::Refused(r) => DateRead::Refused(r),
+        SliceRead::Refused(r) => ValueRead::Refused(r),
     }
 }
 

@@ -14,15 +14,15 @@ mod value;
 mod value_read;
 mod writing;
 
-pub use date::Date;
-pub use object_id::ObjectId;
 pub use reading::decode;
 pub use real::double_bits;
 pub use real::double_of;
 pub use real::real_bits;
 pub use real::real_of;
-pub use time::Time;
 pub use value::ApplicationDataValue;
+pub use value::Date;
+pub use value::ObjectId;
+pub use value::Time;
 pub use value_read::ValueRead;
 pub use writing::encode;
 

@@ -4,9 +4,14 @@ ghost use Rattle.types.specs.Answer.{paperOutcome};
 ghost use Rattle.types.specs.Tag.{application};
 ghost use Rattle.types.specs.Writing.{paperWritten, left};
 ghost use Rattle.tags.specs.Item.{itemTo};
-ghost use Rattle.values.specs.ObjectId.{idOf, objectIdUnder, objectIdBytes, objectIdWritable, ObjectIdWrites, paperObjectId};
+ghost use Rattle.values.specs.ObjectId.{idOf, objectIdUnder, objectIdBytes, objectIdWritable, ObjectIdWrites};
+ghost use Rattle.values.specs.Reading.{objectIdCase, paperValue};
+ghost use Rattle.values.specs.Value.{cased};
 ghost use Rattle.values.specs.Writing.{outcomeOf};
 use crate::bytes::four_bytes;
+use crate::value::ApplicationDataValue;
+use crate::value::ObjectId;
+use crate::value_read::ValueRead;
 use numbers::WordRead;
 use types::ApplicationTagNumber;
 use types::Outcome;
@@ -14,24 +19,12 @@ use types::Refusal;
 use types::TagNumber;
 use types::Written;
 
-// An object identifier.
-pub struct ObjectId {
-    pub object_type: u16,
-    pub instance: u32,
-}
-
-// An object identifier and the place after it.
-pub(crate) enum ObjectIdRead {
-    ObjectId(ObjectId, usize),
-    Refused(Refusal),
-}
-
 // The object identifier of four bytes; another length is refused.
-pub(crate) fn read_object_id(len: u32, buf: &[u8], place: usize) -> ObjectIdRead
-    ensures { λ r. ⌜ paperObjectId r ≡ objectIdUnder len (now (buf .entry)) place ⌝ }
+pub(crate) fn read_object_id(len: u32, buf: &[u8], place: usize) -> ValueRead
+    ensures { λ r. ⌜ paperValue r ≡ cased objectIdCase (objectIdUnder len (now (buf .entry)) place) ⌝ }
 {
     if len != 4 {
-        return ObjectIdRead::Refused(Refusal::LengthNotAllowed(len));
+        return ValueRead::Refused(Refusal::LengthNotAllowed(len));
     }
     match tags::read_four_bytes(buf, place) {
         WordRead::Word(bytes, next) => {
@@ -39,9 +32,9 @@ pub(crate) fn read_object_id(len: u32, buf: &[u8], place: usize) -> ObjectIdRead
                 object_type: (bytes / 4194304) as u16,
                 instance: bytes % 4194304,
             };
-            ObjectIdRead::ObjectId(id, next)
+            ValueRead::Value(ApplicationDataValue::ObjectId(id), next)
         }
-        WordRead::Refused(r) => ObjectIdRead::Refused(r),
+        WordRead::Refused(r) => ValueRead::Refused(r),
     }
 }
 

@@ -3,26 +3,18 @@ ghost use mathlib.Core.Path.{_≡_};
 ghost use Prim.Native.Nat.{_≤_};
 ghost use lib.ListN.{length};
 ghost use Rattle.types.specs.Tag.{tagOf, applicationOf};
-ghost use Rattle.values.specs.Date.{dateUnder};
-ghost use Rattle.values.specs.Time.{timeUnder};
-ghost use Rattle.values.specs.ObjectId.{objectIdUnder};
-ghost use Rattle.values.specs.Reading.{valueFrom, underTag, ofKind, objectIdCase, paperValue};
-ghost use Rattle.values.specs.Value.{onDate, atTime, cased};
+ghost use Rattle.values.specs.Reading.{valueFrom, underTag, ofKind, paperValue};
 use crate::bits::read_bits;
 use crate::boolean::read_boolean;
-use crate::date::DateRead;
 use crate::date::read_date;
 use crate::integer::read_enumerated;
 use crate::integer::read_signed;
 use crate::integer::read_unsigned;
-use crate::object_id::ObjectIdRead;
 use crate::object_id::read_object_id;
 use crate::octets::read_octets;
 use crate::real::read_real_or_double;
 use crate::text::read_text;
-use crate::time::TimeRead;
 use crate::time::read_time;
-use crate::value::ApplicationDataValue;
 use crate::value_read::ValueRead;
 use tags::TagRead;
 use types::ApplicationTagNumber;
@@ -71,45 +63,11 @@ fn of_kind(name: ApplicationTagNumber, tag: Tag, buf: &[u8], place: usize) -> Va
         ApplicationTagNumber::CharacterString => read_text(len, buf, place),
         ApplicationTagNumber::BitString => read_bits(len, buf, place),
         ApplicationTagNumber::Enumerated => read_enumerated(len, buf, place),
-        ApplicationTagNumber::Date => date(len, buf, place),
-        ApplicationTagNumber::Time => time(len, buf, place),
-        ApplicationTagNumber::ObjectId => object_id(len, buf, place),
+        ApplicationTagNumber::Date => read_date(len, buf, place),
+        ApplicationTagNumber::Time => read_time(len, buf, place),
+        ApplicationTagNumber::ObjectId => read_object_id(len, buf, place),
         ApplicationTagNumber::Reserve1 => ValueRead::Refused(Refusal::NotAValueTag(tag)),
         ApplicationTagNumber::Reserve2 => ValueRead::Refused(Refusal::NotAValueTag(tag)),
         ApplicationTagNumber::Reserve3 => ValueRead::Refused(Refusal::NotAValueTag(tag)),
-    }
-}
-
-// The date whose content has this length, as a value.
-fn date(len: u32, buf: &[u8], place: usize) -> ValueRead
-    ensures { λ r. ⌜ paperValue r ≡ cased onDate (dateUnder len (now (buf .entry)) place) ⌝ }
-{
-    match read_date(len, buf, place) {
-        DateRead::Date(date, next) => ValueRead::Value(ApplicationDataValue::Date(date), next),
-        DateRead::Refused(r) => ValueRead::Refused(r),
-    }
-}
-
-// The time whose content has this length, as a value.
-fn time(len: u32, buf: &[u8], place: usize) -> ValueRead
-    requires { ⌜ place ≤ length (now buf) ⌝ }
-    ensures { λ r. ⌜ paperValue r ≡ cased atTime (timeUnder len (now (buf .entry)) place) ⌝ }
-{
-    match read_time(len, buf, place) {
-        TimeRead::Time(time, next) => ValueRead::Value(ApplicationDataValue::Time(time), next),
-        TimeRead::Refused(r) => ValueRead::Refused(r),
-    }
-}
-
-// The object identifier whose content has this length, as a value.
-fn object_id(len: u32, buf: &[u8], place: usize) -> ValueRead
-    ensures { λ r. ⌜ paperValue r ≡ cased objectIdCase (objectIdUnder len (now (buf .entry)) place) ⌝ }
-{
-    match read_object_id(len, buf, place) {
-        ObjectIdRead::ObjectId(id, next) => ValueRead::Value(
-            ApplicationDataValue::ObjectId(id),
-            next,
-        ),
-        ObjectIdRead::Refused(r) => ValueRead::Refused(r),
     }
 }

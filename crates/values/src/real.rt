@@ -4,9 +4,8 @@ ghost use lib.Ieee.{binary32, binary64, ofBits, toBits};
 ghost use Rattle.types.specs.Tag.{application};
 ghost use Rattle.types.specs.Writing.{paperWritten, left};
 ghost use Rattle.tags.specs.Item.{itemTo};
-ghost use Rattle.values.specs.Real.{realUnder, doubleUnder, realBytes, doubleBytes};
+ghost use Rattle.values.specs.Real.{realBytes, doubleBytes};
 ghost use Rattle.values.specs.Reading.{realOrDouble, paperValue};
-ghost use Rattle.values.specs.Value.{real, double, cased};
 use crate::bytes::eight_bytes;
 use crate::bytes::four_bytes;
 use crate::value::ApplicationDataValue;
@@ -58,47 +57,29 @@ pub fn double_bits(x: f64) -> u64
     }
 }
 
-// The real under a Real tag, or the double, which 01 keeps under that tag too and which has eight bytes.
+// The double of eight bytes, which 01 keeps under the Real tag, or the real of four; another length is refused.
 pub(crate) fn read_real_or_double(len: u32, buf: &[u8], place: usize) -> ValueRead
     ensures { λ r. ⌜ paperValue r ≡ realOrDouble len (now (buf .entry)) place ⌝ }
 {
     if len == 8 {
-        read_double(len, buf, place)
-    } else {
-        read_real(len, buf, place)
+        return match tags::read_eight_bytes(buf, place) {
+            UnsignedRead::Unsigned(bits, next) => ValueRead::Value(
+                ApplicationDataValue::Double(double_of(bits)),
+                next,
+            ),
+            UnsignedRead::Refused(r) => ValueRead::Refused(r),
+        };
     }
-}
-
-// The real of four bytes; another length is refused.
-fn read_real(len: u32, buf: &[u8], place: usize) -> ValueRead
-    ensures { λ r. ⌜ paperValue r ≡ cased real (realUnder len (now (buf .entry)) place) ⌝ }
-{
-    if len != 4 {
-        return ValueRead::Refused(Refusal::LengthNotAllowed(len));
+    if len == 4 {
+        return match tags::read_four_bytes(buf, place) {
+            WordRead::Word(bits, next) => ValueRead::Value(
+                ApplicationDataValue::Real(real_of(bits)),
+                next,
+            ),
+            WordRead::Refused(r) => ValueRead::Refused(r),
+        };
     }
-    match tags::read_four_bytes(buf, place) {
-        WordRead::Word(bits, next) => ValueRead::Value(
-            ApplicationDataValue::Real(real_of(bits)),
-            next,
-        ),
-        WordRead::Refused(r) => ValueRead::Refused(r),
-    }
-}
-
-// The double of eight bytes; another length is refused.
-fn read_double(len: u32, buf: &[u8], place: usize) -> ValueRead
-    ensures { λ r. ⌜ paperValue r ≡ cased double (doubleUnder len (now (buf .entry)) place) ⌝ }
-{
-    if len != 8 {
-        return ValueRead::Refused(Refusal::LengthNotAllowed(len));
-    }
-    match tags::read_eight_bytes(buf, place) {
-        UnsignedRead::Unsigned(bits, next) => ValueRead::Value(
-            ApplicationDataValue::Double(double_of(bits)),
-            next,
-        ),
-        UnsignedRead::Refused(r) => ValueRead::Refused(r),
-    }
+    ValueRead::Refused(Refusal::LengthNotAllowed(len))
 }
 
 // Writes a real, as four bytes that are lent.

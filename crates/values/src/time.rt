@@ -5,36 +5,27 @@ ghost use lib.ListN.{length};
 ghost use Rattle.types.specs.Tag.{application};
 ghost use Rattle.types.specs.Writing.{paperWritten, left};
 ghost use Rattle.tags.specs.Item.{itemTo};
-ghost use Rattle.values.specs.Time.{timeOf, timeUnder, timeBytes, paperTime};
+ghost use Rattle.values.specs.Time.{timeOf, timeUnder, timeBytes};
+ghost use Rattle.values.specs.Reading.{paperValue};
+ghost use Rattle.values.specs.Value.{atTime, cased};
+use crate::value::ApplicationDataValue;
+use crate::value::Time;
+use crate::value_read::ValueRead;
 use types::ApplicationTagNumber;
 use types::Refusal;
 use types::TagNumber;
 use types::Written;
 
-// A time of day.
-pub struct Time {
-    pub hour: u8,
-    pub minute: u8,
-    pub second: u8,
-    pub hundredths: u8,
-}
-
-// A time and the place after it.
-pub(crate) enum TimeRead {
-    Time(Time, usize),
-    Refused(Refusal),
-}
-
 // The time of four bytes, each a single one: where one is missing, the buffer's end is carried.
-pub(crate) fn read_time(len: u32, buf: &[u8], place: usize) -> TimeRead
+pub(crate) fn read_time(len: u32, buf: &[u8], place: usize) -> ValueRead
     requires { ⌜ place ≤ length (now buf) ⌝ }
-    ensures { λ r. ⌜ paperTime r ≡ timeUnder len (now (buf .entry)) place ⌝ }
+    ensures { λ r. ⌜ paperValue r ≡ cased atTime (timeUnder len (now (buf .entry)) place) ⌝ }
 {
     if len != 4 {
-        return TimeRead::Refused(Refusal::LengthNotAllowed(len));
+        return ValueRead::Refused(Refusal::LengthNotAllowed(len));
     }
     if buf.len() < place + 4 {
-        return TimeRead::Refused(Refusal::BytesRunOut(buf.len()));
+        return ValueRead::Refused(Refusal::BytesRunOut(buf.len()));
     }
     let time = Time {
         hour: buf[place],
@@ -42,7 +33,7 @@ pub(crate) fn read_time(len: u32, buf: &[u8], place: usize) -> TimeRead
         second: buf[place + 2],
         hundredths: buf[place + 3],
     };
-    TimeRead::Time(time, place + 4)
+    ValueRead::Value(ApplicationDataValue::Time(time), place + 4)
 }
 
 // Writes a time, as four bytes that are lent.

@@ -58,9 +58,9 @@ of-kind-spec =
     (λ c. simp (c .before .enum-told8 .given .1) (c .read-text .ensures))
     (λ c. simp (c .before .enum-told9 .given .1) (c .read-bits .ensures))
     (λ c. simp (c .before .enum-told10 .given .1) (c .read-enumerated .ensures))
-    (λ c. simp (c .before .enum-told11 .given .1) (c .date .ensures))
-    (λ c. simp (c .before .enum-told12 .given .1) (c .time .ensures))
-    (λ c. simp (c .before .enum-told13 .given .1) (c .object-id .ensures))
+    (λ c. simp (c .before .enum-told11 .given .1) (c .read-date .ensures))
+    (λ c. simp (c .before .enum-told12 .given .1) (c .read-time .ensures))
+    (λ c. simp (c .before .enum-told13 .given .1) (c .read-object-id .ensures))
     returns-14
     returns-15
     returns-16)
