@@ -1,4 +1,4 @@
--- A list in an array that may be longer: its numbers first, then zeros. About the code alone.
+-- A list in an array that may be longer: its numbers first, then zeros.
 -- Assumes nothing.
 use Prim.Native.Nat.{ℕ, zero, suc}
 use mathlib.Core.List.{List, [], _∷_}
