@@ -53,10 +53,10 @@ unfolding headerAfter
 after-cases control xs place P f g = first-cases kinds control xs place P f (λ n. g (none-left control n))
 
 -- no two kinds have one type
-abbrev ofType : ℕ → Kind
+abbrev pub ofType : ℕ → Kind
 ofType t = if (eqb t 0) request (if (eqb t 2) simple (if (eqb t 3) complex segment))
 
-type-back : (k : Kind) → ofType (rowOf k .pduType) ≡ k
+pub type-back : (k : Kind) → ofType (rowOf k .pduType) ≡ k
 type-back request = refl
 type-back simple = refl
 type-back complex = refl

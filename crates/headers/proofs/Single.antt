@@ -32,14 +32,16 @@ kind-back k.Segment = refl
 pub single-kind : (x y : kind.Kind) → kindOf x ≡ kindOf y → x ≡ y
 single-kind = told-apart kindOf programKind kind-back
 
-abbrev ofKind : Kind → List ℕ → program.Header
-ofKind request ns = h.ConfirmedRequest (getD ns 0 0) (getD ns 1 0) (getD ns 2 0) (getD ns 3 0)
-ofKind simple ns = h.SimpleAck (getD ns 0 0) (getD ns 1 0)
-ofKind complex ns = h.ComplexAck (getD ns 0 0) (getD ns 1 0)
-ofKind segment ns = h.SegmentAck (getD ns 0 0) (getD ns 1 0) (getD ns 2 0)
+-- the header of a kind and the numbers of its fields, of which a kind may have fewer than four
+abbrev pub ofFields : Kind → (first second third fourth : ℕ) → program.Header
+ofFields request a b c d = h.ConfirmedRequest a b c d
+ofFields simple a b c d = h.SimpleAck a b
+ofFields complex a b c d = h.ComplexAck a b
+ofFields segment a b c d = h.SegmentAck a b c
 
 abbrev pub programHeader : Header → program.Header
-programHeader x = ofKind (x .kind) (fieldNumbers (x .fields))
+programHeader x =
+    let ns = fieldNumbers (x .fields) in ofFields (x .kind) (getD ns 0 0) (getD ns 1 0) (getD ns 2 0) (getD ns 3 0)
 
 pub header-back : (x : program.Header) → programHeader (headerOf x) ≡ x
 header-back (h.ConfirmedRequest segments size id c) = refl
