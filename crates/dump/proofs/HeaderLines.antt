@@ -6,8 +6,8 @@ use Prim.Native.Nat.{ℕ, _≤_}
 use native.Mathlib.Omega.{arith}
 use lib.ListN.{length, take, getD}
 use Rattle.headers.specs.Header.{Kind, Header, rowOf, fieldNumbers}
-use Rattle.headers.specs.Padded.{padded}
-use Rattle.headers.proofs.Padded.{padded-front, padded-length}
+use Rattle.types.specs.Padded.{padded}
+use Rattle.types.proofs.Padded.{padded-front, padded-length}
 use Rattle.text.specs.Text.{decimals, line}
 use Rattle.dump.specs.Frame.{headerLine}
 

@@ -5,7 +5,6 @@ pub mod Control
 pub mod Exactly
 pub mod Back
 pub mod Again
-pub mod Padded
 pub mod Single
 pub mod Examples
 pub mod Accepted

@@ -1,7 +1,6 @@
 pub mod Choice
 pub mod Letters
 pub mod Words
-pub mod Padded
 pub mod Header
 pub mod Reading
 pub mod Writing

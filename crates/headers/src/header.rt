@@ -4,7 +4,7 @@ ghost use mathlib.Core.List.{[], _∷_};
 ghost use Prim.Native.Nat.{_≤_};
 ghost use lib.ListN.{length};
 ghost use Rattle.headers.specs.Header.{kindOf, headerOf, fieldNumbers};
-ghost use Rattle.headers.specs.Padded.{padded};
+ghost use Rattle.types.specs.Padded.{padded};
 use crate::kind::Kind;
 
 // A header; its fields stand in the order of their bytes, and a service choice is one of `confirmed_service_choice`.

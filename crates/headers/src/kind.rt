@@ -3,7 +3,7 @@ ghost use mathlib.Core.Path.{_≡_};
 ghost use Prim.Native.Nat.{_≤_};
 ghost use lib.ListN.{length};
 ghost use Rattle.headers.specs.Header.{rowOf, kindOf};
-ghost use Rattle.headers.specs.Padded.{padded};
+ghost use Rattle.types.specs.Padded.{padded};
 
 // The types of PDU that have these headers, as they stand in a control byte's high nibble.
 pub(crate) const CONFIRMED_REQUEST: u8 = 0;

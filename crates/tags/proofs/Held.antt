@@ -9,32 +9,24 @@ use mathlib.Core.List.{List, [], _∷_, _++_, append-assoc, append-nil}
 use lib.ListN.{length, take, set, length-append}
 use lib.Dec.{ltb, lit≤}
 use Rattle.types.specs.Choice.{if}
+use Rattle.types.specs.Padded.{padded}
 use Rattle.types.specs.Tag.{Number, application, context, opening, closing, Tag}
+use Rattle.types.proofs.Padded.{padded-front}
 use Rattle.tags.specs.Writing.{lowBitsFor, tagValueBytes, contextBytes, numberBytes, tagBytes}
-use Rattle.tags.specs.Held.{pad, holding, pushed, pushes}
+use Rattle.tags.specs.Held.{holding, pushed, pushes}
 use Rattle.tags.specs.declared.header.Header.{Header}
 use Rattle.tags.proofs.BySize.{most-five}
 
 -- one more byte goes where the zeros begin
-pub pad-more : (n : ℕ) (l : List ℕ) (b : ℕ) → length l < n → set (pad n l) (length l) b ≡ pad n (l ++ (b ∷ []))
-pad-more zero l b h = absurd (not-suc-le-zero h)
-pad-more (suc n) [] b h = refl
-pad-more (suc n) (a ∷ l) b h = ap (λ (t : List ℕ). a ∷ t) (pad-more n l b (le-of-suc-le-suc h))
-
-pub padded : (n : ℕ) (l : List ℕ) → length (pad n l) ≡ n
-padded zero l = refl
-padded (suc n) [] = ap suc (padded n [])
-padded (suc n) (a ∷ l) = ap suc (padded n l)
-
-pub take-pad : (n : ℕ) (l : List ℕ) → length l ≤ n → take (length l) (pad n l) ≡ l
-take-pad n [] h = refl
-take-pad zero (a ∷ l) h = absurd (not-suc-le-zero h)
-take-pad (suc n) (a ∷ l) h = ap (λ (t : List ℕ). a ∷ t) (take-pad n l (le-of-suc-le-suc h))
+pub padded-more : (n : ℕ) (l : List ℕ) (b : ℕ) → length l < n → set (padded n l) (length l) b ≡ padded n (l ++ (b ∷ []))
+padded-more zero l b h = absurd (not-suc-le-zero h)
+padded-more (suc n) [] b h = refl
+padded-more (suc n) (a ∷ l) b h = ap (λ (t : List ℕ). a ∷ t) (padded-more n l b (le-of-suc-le-suc h))
 
 pushed-holding : (l : List ℕ) (b : ℕ) → length l < 7 → pushed (holding l) b ≡ holding (l ++ (b ∷ []))
 pushed-holding l b h =
     let e : length l + 1 ≡ length (l ++ (b ∷ [])) = omega (arith, length-append l (b ∷ [])) in
-    λ i. record { bytes = pad-more 7 l b h i; len = e i }
+    λ i. record { bytes = padded-more 7 l b h i; len = e i }
 
 pub pushes-holding : (bs l : List ℕ) → length l + length bs ≤ 7 → pushes (holding l) bs ≡ holding (l ++ bs)
 pushes-holding [] l h = ap holding (sym (append-nil l))
@@ -64,4 +56,4 @@ header-short t = go (t .number)
 
 -- the bytes that a struct holds, read back
 pub held-bytes : (h : Header) (l : List ℕ) → h ≡ holding l → length l ≤ 7 → take (h .len) (h .bytes) ≡ l
-held-bytes h l e k = ap (λ (x : Header). take (x .len) (x .bytes)) e ∙ take-pad 7 l k
+held-bytes h l e k = ap (λ (x : Header). take (x .len) (x .bytes)) e ∙ padded-front 7 l k

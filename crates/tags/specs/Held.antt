@@ -2,9 +2,10 @@
 -- Assumes nothing.
 use mathlib.Core.Path.{_≡_}
 use mathlib.Core.Bool.{true}
-use Prim.Native.Nat.{ℕ, zero, suc, _+_}
+use Prim.Native.Nat.{ℕ, _+_}
 use mathlib.Core.List.{List, [], _∷_, _++_}
 use lib.ListN.{length, set}
+use Rattle.types.specs.Padded.{padded}
 use Rattle.types.specs.Tag.{Number, Tag, tag}
 use Rattle.types.specs.Writing.{Left, can, settled, writeAnswer}
 use Rattle.tags.specs.Writing.{contextBytes, tagBytes, tagValueAllowed, writableTag}
@@ -12,15 +13,9 @@ use Rattle.tags.specs.declared.header.Header.{Header}
 use Rattle.tags.specs.declared.short.Short.{Short}
 use Rattle.tags.specs.declared.short.Short.the-variants as s
 
--- bytes, filled up with zeros to n
-abbrev pub pad : ℕ → List ℕ → List ℕ
-pad zero l = []
-pad (suc n) [] = 0 ∷ pad n []
-pad (suc n) (a ∷ l) = a ∷ pad n l
-
 -- the struct that holds these bytes, at most seven, and their number
 abbrev pub holding : List ℕ → Header
-holding l = record { bytes = pad 7 l; len = length l }
+holding l = record { bytes = padded 7 l; len = length l }
 
 -- one byte more
 abbrev pub pushed : Header → ℕ → Header

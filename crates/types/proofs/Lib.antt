@@ -1,4 +1,5 @@
 pub mod Choices
+pub mod Padded
 pub mod Class
 pub mod Single
 pub mod Numbered

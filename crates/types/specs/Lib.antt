@@ -1,4 +1,5 @@
 pub mod Choice
+pub mod Padded
 pub mod Tag
 pub mod Refusal
 pub mod Answer

@@ -14,7 +14,7 @@ pub data Number : Type 0 where
   opening : ℕ → Number
   closing : ℕ → Number
 
--- the class, by a number: 1 application, 2 context, 3 opening, 4 closing
+-- the class by a number, which is ours: the standard has a bit for it, and tells openings and closings by the low bits (20.2.1.1, 20.2.1.3.2)
 abbrev pub classOf : Number → ℕ
 classOf (application n) = 1
 classOf (context n) = 2

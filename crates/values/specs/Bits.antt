@@ -16,6 +16,7 @@ pub record Bits : Type 0 where
   pub unused : ℕ
   pub part : Part
 
+-- of no length it is refused 7, before any byte is read
 unfoldable pub bitsUnder : ℕ → List ℕ → ℕ → Answer Bits
 bitsUnder len xs place =
     if (ltb len 1) (refused 7 (amount len))

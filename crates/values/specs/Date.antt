@@ -23,6 +23,7 @@ date y m d w = record { year = y; month = m; day = d; weekday = w }
 abbrev pub dateOf : program.Date → Date
 dateOf d = date (d .year) (d .month) (d .day) (d .wday)
 
+-- of another length than 4 it is refused 7, before any byte is read
 unfoldable pub dateUnder : ℕ → List ℕ → ℕ → Answer Date
 dateUnder len xs place =
     if (eqb len 4)

@@ -23,6 +23,7 @@ identifier t i = record { type = t; instance = i }
 abbrev pub idOf : program.ObjectId → ObjectId
 idOf o = identifier (o .«object_type») (o .instance)
 
+-- of another length than 4 it is refused 7, before any byte is read
 unfoldable pub objectIdUnder : ℕ → List ℕ → ℕ → Answer ObjectId
 objectIdUnder len xs place =
     if (eqb len 4)

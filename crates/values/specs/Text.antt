@@ -22,6 +22,7 @@ textRead (stopped n c) part next = refused n c
 unfoldable pub textIn : List ℕ → Part → ℕ → Answer Part
 textIn xs part next = textRead (textOutcome (checkOf (bytesIn xs part))) part next
 
+-- of no length it is refused 7, before any byte is read; then another set 9, before the text's bytes
 unfoldable pub textUnder : ℕ → List ℕ → ℕ → Answer Part
 textUnder len xs place =
     if (ltb len 1) (refused 7 (amount len))

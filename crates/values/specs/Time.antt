@@ -21,6 +21,7 @@ time h m s c = record { hour = h; minute = m; second = s; hundredths = c }
 abbrev pub timeOf : program.Time → Time
 timeOf t = time (t .hour) (t .minute) (t .second) (t .hundredths)
 
+-- of another length than 4 it is refused 7, before any byte is read
 unfoldable pub timeUnder : ℕ → List ℕ → ℕ → Answer Time
 timeUnder len xs place =
     if (eqb len 4)

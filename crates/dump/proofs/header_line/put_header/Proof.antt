@@ -2,7 +2,7 @@
 -- Assumes nothing.
 use Rattle.text.proofs.Words.{words-put}
 use Rattle.headers.specs.Header.{headerOf, kindOf, rowOf, fieldNumbers}
-use Rattle.headers.proofs.Padded.{padded-length}
+use Rattle.types.proofs.Padded.{padded-length}
 use Rattle.dump.proofs.HeaderLines.{header-line}
 use native.Mathlib.Omega.{arith}
 use Prim.Native.Nat.{_-_, _≤_}

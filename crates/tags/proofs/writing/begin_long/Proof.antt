@@ -10,7 +10,8 @@ use Rattle.types.specs.Tag.{tagOf}
 use Rattle.types.specs.Writing.{writeAnswer}
 use Rattle.tags.specs.declared.header.Header.{Header}
 use Rattle.tags.specs.Writing.{tagBefore, tagBytes}
-use Rattle.tags.proofs.Held.{padded, header-short, held-bytes}
+use Rattle.types.proofs.Padded.{padded-length}
+use Rattle.tags.proofs.Held.{header-short, held-bytes}
 use Rattle.tags.proofs.Begun.{begun-written}
 use Rattle.tags.proofs.writing.begin_long.Statement.{statement}
 use Rattle.tags.proofs.writing.begin_long.Tie as tie
@@ -62,7 +63,7 @@ part-extend-from-slice-start : tie.Need-part-extend-from-slice-start
 part-extend-from-slice-start c = search needs
 
 part-extend-from-slice-end : tie.Need-part-extend-from-slice-end
-part-extend-from-slice-end c = omega (arith, sized (c .before .before .before), short (c .before .before .before), ap (λ (h : Header). length (h .bytes)) (c .before .before .before .built .ensures) ∙ padded 7 (tagBytes (tagOf (c .before .before .before .before .before .before .before .before .before .args .tag))))
+part-extend-from-slice-end c = omega (arith, sized (c .before .before .before), short (c .before .before .before), ap (λ (h : Header). length (h .bytes)) (c .before .before .before .built .ensures) ∙ padded-length 7 (tagBytes (tagOf (c .before .before .before .before .before .before .before .before .before .args .tag))))
 
 extend-from-slice-requires : tie.Need-extend-from-slice-requires
 extend-from-slice-requires c κs = search needs

@@ -9,7 +9,7 @@ use lib.ListN.{getD}
 use mir.Syntax.{w64}
 use mir.Val.{Fits}
 use Rattle.headers.specs.Header.{Kind, rowOf, headerOf, fieldNumbers}
-use Rattle.headers.proofs.Padded.{padded-at}
+use Rattle.types.proofs.Padded.{padded-at}
 use Rattle.thaolisem.proofs.header.told.Statement.{statement}
 use Rattle.thaolisem.proofs.header.told.Tie as tie
 

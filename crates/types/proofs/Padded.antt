@@ -5,7 +5,7 @@ use Prim.Native.Nat.{ℕ, zero, suc, _<_, _≤_}
 use native.Mathlib.Omega.{arith}
 use mathlib.Core.List.{List, [], _∷_}
 use lib.ListN.{length, getD, take}
-use Rattle.headers.specs.Padded.{padded}
+use Rattle.types.specs.Padded.{padded}
 
 -- a place inside the array has the list's number, or 0 where the list has ended
 pub padded-at : (n i : ℕ) (xs : List ℕ) → i < n → getD (padded n xs) i 0 ≡ getD xs i 0
