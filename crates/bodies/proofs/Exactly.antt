@@ -7,6 +7,7 @@ use mathlib.Core.List.{List}
 use native.Mathlib.Omega.{arith}
 use lib.ListN.{length, take, drop}
 use Rattle.types.specs.Tag.{opening, tag}
+use Rattle.types.specs.Refusal.{Carried}
 use Rattle.types.specs.Answer.{Answer, accepted, refused}
 use Rattle.numbers.specs.Reading.{partAt, sliceFrom, partOf}
 use Rattle.numbers.proofs.Parts.{part-given}
@@ -14,7 +15,7 @@ use Rattle.tags.specs.Reading.{tagFrom}
 use Rattle.tags.proofs.Exactly.{tag-found, moves-on}
 use Rattle.bodies.specs.Item.{Item}
 use Rattle.bodies.specs.Body.{BodyAt}
-use Rattle.bodies.specs.Scan.{Body, body, Counted, handed, scanned, bodyOf, bodyFrom}
+use Rattle.bodies.specs.Scan.{Body, body, Counted, handed, unread, scanned, bodyOf, bodyFrom}
 use Rattle.bodies.specs.Given.{given}
 use Rattle.bodies.proofs.Items.{part, ItemsRead}
 use Rattle.bodies.proofs.Scanned.{scan-hands, scan-says, Says, items-ahead}
@@ -31,6 +32,13 @@ handed-parts {start} {start′} {size} {size′} {n} {n′} {next} {next′} e =
     let b : body start size n ≡ body start′ size′ n′ = cc in
     let c : next ≡ next′ = cc in
     (ap (λ (x : Body). x .start) b, ap (λ (x : Body). x .size) b, ap (λ (x : Body). x .number) b, c, ap (λ (r : Counted). r .tags) e)
+
+-- a refusal hands nothing over
+pub nothing-handed : {r : ℕ} {c : Carried} {start size n next k : ℕ} → unread r c ≡ handed start size n next k → ⊥
+nothing-handed {r} {c} {start} {size} {n} {next} e =
+    let a : refused r c ≡ accepted (body start size n) next = ap (λ (x : Counted). x .answer) e in
+    let z : _≡_ {A = ℕ} 0 1 = cc in
+    omega arith
 
 -- a body that lies so is handed over
 placed-given : (xs : List ℕ) (allowance : ℕ) {place n next end after : ℕ} {items : List Item} → Placed xs place n next end after items → length items < allowance

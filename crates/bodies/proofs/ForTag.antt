@@ -20,7 +20,7 @@ use Rattle.bodies.proofs.Refusals.{tag-refused}
 use Rattle.bodies.proofs.Scanned.{Ended, Says}
 use Rattle.bodies.proofs.Items.{part}
 use Rattle.bodies.proofs.Places.{part-tag}
-use Rattle.bodies.proofs.Exactly.{Lies, LiesIf, answer-lies}
+use Rattle.bodies.proofs.Exactly.{Lies, LiesIf, answer-lies, nothing-handed}
 use Rattle.bodies.proofs.Counts.{scanned-says}
 use Rattle.bodies.proofs.Ways.{body-for-ways}
 
@@ -34,12 +34,6 @@ module _ (expected allowance : ℕ) (xs : List ℕ) (place start size n next cou
   abbrev There : Counted → Type 0
   There r = r ≡ handed start size n next count → (n ≡ expected) × (bodyFrom allowance xs place ≡ handed start size n next count)
 
-  never-unread : (r : ℕ) (c : Carried) → There (unread r c)
-  never-unread r c g =
-      let a : refused r c ≡ accepted (body start size n) next = ap (λ (x : Counted). x .answer) g in
-      let z : _≡_ {A = ℕ} 0 1 = cc in
-      absurd (omega arith)
-
   there-opened : (after : ℕ) → tagFrom xs place ≡ accepted (tag (opening expected) 0) after → There (scanned allowance expected xs after)
   unfolding bodyFrom
   there-opened after e g =
@@ -49,7 +43,7 @@ module _ (expected allowance : ℕ) (xs : List ℕ) (place start size n next cou
 
   pub for-tag : (bodyForFrom expected allowance xs place ≡ handed start size n next count) ↔ ((n ≡ expected) × (bodyFrom allowance xs place ≡ handed start size n next count))
   for-tag = (
-    body-for-ways There expected allowance xs place there-opened (λ t after e f. never-unread 4 (tagFound t)) (λ r c e. never-unread r c),
+    body-for-ways There expected allowance xs place there-opened (λ t after e f g. absurd (nothing-handed g)) (λ r c e g. absurd (nothing-handed g)),
     (λ y.
         let l : Lies allowance xs place (body start size n) next count = subst (λ (r : Counted). LiesIf allowance xs place (r .answer) (r .tags)) (y .1) (answer-lies allowance xs place) in
         as-the-other expected allowance xs place start (subst (λ (m : ℕ). tagFrom xs place ≡ accepted (tag (opening m) 0) start) (y .0) (l .placed .opened)) ∙ y .1),

@@ -5,12 +5,13 @@ pub mod Steps
 pub mod Plain
 pub mod Scanned
 pub mod Places
-pub mod Ways
 pub mod Refusals
+pub mod Ways
 pub mod Exactly
 pub mod Counts
 pub mod Allowance
 pub mod ForTag
 pub mod NoBody
+pub mod Presence
 pub mod Single
 pub mod Examples

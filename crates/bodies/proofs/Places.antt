@@ -49,7 +49,8 @@ module _ (xs : List ℕ) (small : length xs ≤ 65535) where
       subst (λ (j : Item). ItemsRead xs place end (j ∷ items)) same
       (ItemsRead.item (tag-read xs small place (i .tag) (i .header) (i .content ++ (more ++ rest)) e₁ t) (split-placed s after rest e₃ end (omega arith)))
 
-  body-here : {place n : ℕ} {view : List ℕ} {items : List Item} (b : BodyAt xs place n view items) → drop place xs ≡ b .opener ++ (view ++ (b .closer ++ b .after))
+  -- what stands at a body's place
+  pub body-here : {place n : ℕ} {view : List ℕ} {items : List Item} (b : BodyAt xs place n view items) → drop place xs ≡ b .opener ++ (view ++ (b .closer ++ b .after))
   body-here {place} {view = view} b = ap (drop place) (b .bytes) ∙ drop-at (b .before) (b .opener ++ (view ++ (b .closer ++ b .after))) place (b .at)
 
   -- the view is the bytes from the opening tag's end on, as many as it has

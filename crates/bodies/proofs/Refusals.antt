@@ -5,9 +5,10 @@ use mathlib.Core.Path.{_≡_, refl, subst}
 use mathlib.Core.Logic.{_⊎_, inl, inr}
 use mathlib.Core.Bool.{Bool, true, false}
 use mathlib.Core.List.{List}
+use native.Mathlib.Omega.{arith}
 use lib.ListN.{length}
 use lib.Dec.{ltb}
-use borrow.Author.Tests.{lt-ltb, le-ltb, ltb-true, ltb-false}
+use borrow.Author.Tests.{lt-ltb, le-ltb, le-leb, ltb-true, ltb-false}
 use Rattle.types.specs.Refusal.{Carried, amount}
 use Rattle.types.specs.Answer.{refused}
 use Rattle.numbers.specs.Reading.{byteFrom}
@@ -20,9 +21,17 @@ unfolding tagFrom byteFrom
 too-long xs place l = simp (lt-ltb 65535 (length xs) l)
 
 -- 2 for a place past the end
-past-end : (xs : List ℕ) (place : ℕ) → length xs ≤ 65535 → length xs < place → tagFrom xs place ≡ refused 2 (amount place)
+pub past-end : (xs : List ℕ) (place : ℕ) → length xs ≤ 65535 → length xs < place → tagFrom xs place ≡ refused 2 (amount place)
 unfolding tagFrom byteFrom
 past-end xs place s l = simp (le-ltb 65535 (length xs) s, lt-ltb (length xs) place l)
+
+-- 3 at the end, carrying it
+pub at-end : (xs : List ℕ) (place : ℕ) → length xs ≤ 65535 → place ≡ length xs → tagFrom xs place ≡ refused 3 (amount (length xs))
+unfolding tagFrom byteFrom
+at-end xs place s e =
+    let l : place ≤ length xs = omega arith in
+    let m : length xs ≤ place = omega arith in
+    simp (le-ltb 65535 (length xs) s, le-ltb (length xs) place l, le-leb (length xs) place m)
 
 -- and else 3
 pub tag-refused : (xs : List ℕ) (place r : ℕ) (c : Carried) → tagFrom xs place ≡ refused r c → (r ≡ 1) ⊎ ((r ≡ 2) ⊎ (r ≡ 3))

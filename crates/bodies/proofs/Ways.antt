@@ -1,11 +1,13 @@
--- The ways in which asking for a body goes: an opening is found and the scan answers, another tag is found, or no tag is read.
+-- The ways in which asking for a body goes: an opening is found and the scan answers, another tag is found, or no tag is read; of a body that may be absent, the buffer's end besides.
 -- Assumes nothing.
 use Prim.Native.Nat.{ℕ, _≤_}
 use mathlib.Core.Path.{_≡_, refl, ap, _∙_, subst}
 use mathlib.Core.Bool.{Bool, true, false}
 use mathlib.Core.List.{List}
 use native.Mathlib.Omega.{arith}
+use borrow.Author.Tests.{ltb-true, ltb-false, eqb-true, eqb-false}
 use lib.ListN.{length}
+use lib.Dec.{ltb, eqb}
 use Rattle.types.specs.Choice.{if}
 use Rattle.types.specs.Tag.{Number, application, context, opening, closing, Tag, tag}
 use Rattle.types.specs.Refusal.{Carried, tagFound}
@@ -15,6 +17,8 @@ use Rattle.types.proofs.Class.{same-exactly}
 use Rattle.tags.specs.Reading.{tagFrom, expectedFrom, sameNumber}
 use Rattle.tags.proofs.Exactly.{tag-found, block-has-no-value}
 use Rattle.bodies.specs.Scan.{Counted, unread, scanned, bodyBy, bodyOf, bodyFrom, bodyForOf, bodyForFrom}
+use Rattle.bodies.specs.Optional.{endOfBuffer, otherTag, Optional, answered, absent, optionalOf, optionalFrom}
+use Rattle.bodies.proofs.Refusals.{too-long, past-end}
 
 -- an opening that was read has no value
 valueless : (xs : List ℕ) (place n v next : ℕ) → tagFrom xs place ≡ accepted (tag (opening n) v) next → tagFrom xs place ≡ accepted (tag (opening n) 0) next
@@ -61,6 +65,14 @@ is-another expected m e f =
     let t : sameNumber m (opening expected) ≡ true = same-exactly m (opening expected) .1 f in
     let z : _≡_ {A = ℕ} 0 1 = cc in omega arith
 
+-- any number but the one expected is not the same
+pub not-same : (expected : ℕ) (m : Number) → (m ≡ opening expected → ⊥) → sameNumber m (opening expected) ≡ false
+not-same expected m f = go (sameNumber m (opening expected)) refl
+  where
+    go : (same : Bool) → sameNumber m (opening expected) ≡ same → same ≡ false
+    go true e = absurd (f (is-opening expected m e))
+    go false e = refl
+
 -- what holds in each of the three ways holds of what `get_tagged_body_for_tag` answers
 module _ (P : Counted → Type 0) (expected allowance : ℕ) (xs : List ℕ) (place : ℕ)
     (opened : (next : ℕ) → tagFrom xs place ≡ accepted (tag (opening expected) 0) next → P (scanned allowance expected xs next))
@@ -78,3 +90,26 @@ module _ (P : Counted → Type 0) (expected allowance : ℕ) (xs : List ℕ) (pl
   pub body-for-ways : P (bodyForFrom expected allowance xs place)
   unfolding bodyForFrom expectedFrom
   body-for-ways = by-expected (tagFrom xs place) refl
+
+-- what holds in each of the four ways holds of what `get_optional_tagged_body` answers
+module _ (P : Optional → Type 0) (expected allowance : ℕ) (xs : List ℕ) (place : ℕ)
+    (opened : (next : ℕ) → tagFrom xs place ≡ accepted (tag (opening expected) 0) next → P (answered (scanned allowance expected xs next)))
+    (other : (t : Tag) (next : ℕ) → tagFrom xs place ≡ accepted t next → (t .number ≡ opening expected → ⊥) → P (absent (otherTag t)))
+    (ended : length xs ≤ 65535 → place ≡ length xs → P (absent endOfBuffer))
+    (not-read : (r : ℕ) (c : Carried) → tagFrom xs place ≡ refused r c → P (answered (unread r c))) where
+  opening-or-other : (m : Number) (v next : ℕ) → tagFrom xs place ≡ accepted (tag m v) next → (same : Bool) → sameNumber m (opening expected) ≡ same
+      → P (if same (answered (scanned allowance expected xs next)) (absent (otherTag (tag m v))))
+  opening-or-other m v next e true s = opened next (valueless xs place expected v next (e ∙ ap (λ (k : Number). accepted (tag k v) next) (is-opening expected m s)))
+  opening-or-other m v next e false s = other (tag m v) next e (is-another expected m s)
+
+  by-tag-found : (a : Answer Tag) → tagFrom xs place ≡ a → P (optionalOf expected allowance xs a)
+  by-tag-found (accepted t next) e = opening-or-other (t .number) (t .value) next e (sameNumber (t .number) (opening expected)) refl
+  by-tag-found (refused r c) e = not-read r c e
+
+  pub optional-ways : P (optionalFrom expected allowance xs place)
+  unfolding optionalFrom
+  optional-ways =
+      either P (ltb 65535 (length xs)) (λ f. not-read 1 _ (too-long xs place (ltb-true 65535 (length xs) f))) (λ f.
+      let small : length xs ≤ 65535 = ltb-false 65535 (length xs) f in
+      either P (ltb (length xs) place) (λ g. not-read 2 _ (past-end xs place small (ltb-true (length xs) place g))) (λ g.
+      either P (eqb place (length xs)) (λ h. ended small (eqb-true place (length xs) h)) (λ h. by-tag-found (tagFrom xs place) refl)))

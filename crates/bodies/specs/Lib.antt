@@ -4,3 +4,5 @@ pub mod Body
 pub mod Scan
 pub mod Count
 pub mod Given
+pub mod Optional
+pub mod Absent

@@ -30,7 +30,7 @@ use Rattle.walk.proofs.Exactly.{exactly}
 abbrev item : Tag → List ℕ → List ℕ → Item
 item t header content = record { tag = t; header = header; content = content }
 
-items-of : {place depth : ℕ} {bytes : List ℕ} {tags : List Seen} → Items place depth bytes tags → List Item
+pub items-of : {place depth : ℕ} {bytes : List ℕ} {tags : List Seen} → Items place depth bytes tags → List Item
 items-of none = []
 items-of (plain {t} header content h is sized x) = item t header content ∷ items-of x
 items-of (block {n} opener inside closer l opened x closed y) = item (tag (opening n) 0) opener [] ∷ (items-of x ++ (item (tag (closing n) 0) closer [] ∷ items-of y))
@@ -100,11 +100,35 @@ balanced-before n depth (block {n = m} opener inside closer l opened x closed y)
 balanced-of : (n : ℕ) {place d : ℕ} {bytes : List ℕ} {tags : List Seen} (x : Items place d bytes tags) → Balanced n 0 (items-of x)
 balanced-of n x = subst (Balanced n 0) (append-nil (items-of x)) (balanced-before n 0 x [] (balanced-none n 0 refl))
 
+-- where the parts of a plain item stand, and of a block
+pub record ItemPlaces (xs : List ℕ) (place : ℕ) (header content rest : List ℕ) : Type 0 where
+  pub here : drop place xs ≡ header ++ (content ++ rest)
+  pub after : drop (place + length header + length content) xs ≡ rest
+
+pub item-places : (xs : List ℕ) (place : ℕ) (header content rest r : List ℕ) → drop place xs ≡ (header ++ (content ++ rest)) ++ r → ItemPlaces xs place header content (rest ++ r)
+item-places xs place header content rest r e =
+    let h : drop place xs ≡ header ++ (content ++ (rest ++ r)) = e ∙ simp append-assoc in
+    record { here = h; after = behind xs (place + length header) content (rest ++ r) (behind xs place header (content ++ (rest ++ r)) h) }
+
+pub record BlockPlaces (xs : List ℕ) (place : ℕ) (opener inside closer rest : List ℕ) : Type 0 where
+  pub here : drop place xs ≡ opener ++ (inside ++ (closer ++ rest))
+  pub within : drop (place + length opener) xs ≡ inside ++ (closer ++ rest)
+  pub closing-at : drop (place + length opener + length inside) xs ≡ closer ++ rest
+  pub after : drop (place + length opener + length inside + length closer) xs ≡ rest
+
+pub block-places : (xs : List ℕ) (place : ℕ) (opener inside closer rest r : List ℕ) → drop place xs ≡ (opener ++ (inside ++ (closer ++ rest))) ++ r → BlockPlaces xs place opener inside closer (rest ++ r)
+block-places xs place opener inside closer rest r e =
+    let h : drop place xs ≡ opener ++ (inside ++ (closer ++ (rest ++ r))) = e ∙ simp append-assoc in
+    let w : drop (place + length opener) xs ≡ inside ++ (closer ++ (rest ++ r)) = behind xs place opener (inside ++ (closer ++ (rest ++ r))) h in
+    let c : drop (place + length opener + length inside) xs ≡ closer ++ (rest ++ r) = behind xs (place + length opener) inside (closer ++ (rest ++ r)) w in
+    record { here = h; within = w; closing-at = c; after = behind xs (place + length opener + length inside) closer (rest ++ r) c }
+
 -- a block that stands at a place of a buffer
 module _ (xs : List ℕ) (small : length xs ≤ 65535) (place depth n : ℕ) (opener inside closer rest : List ℕ) (inner : List Seen)
     (here : drop place xs ≡ opener ++ (inside ++ (closer ++ rest))) (opened : IsTag (tag (opening n) 0) opener) (list : Items (place + length opener) (suc depth) inside inner)
     (closed : IsTag (tag (closing n) 0) closer) where
-  the-body : BodyAt xs place n inside (items-of list)
+  -- its inside is a body
+  pub the-body : BodyAt xs place n inside (items-of list)
   the-body =
       let s : length (drop place xs) ≡ length opener + length (inside ++ (closer ++ rest)) = ap length here ∙ length-append opener (inside ++ (closer ++ rest)) in
       let b = balanced-of n list in
@@ -143,28 +167,23 @@ module _ (xs : List ℕ) (small : length xs ≤ 65535) where
   unfolding the-body
   blocks-before none r e later b = b
   blocks-before (plain {place} {depth} {t} header content {rest} {tags} h is sized x) r e later b =
-      let here : drop place xs ≡ header ++ (content ++ (rest ++ r)) = e ∙ simp append-assoc in
-      let d : drop (place + length header + length content) xs ≡ rest ++ r = behind xs (place + length header) content (rest ++ r) (behind xs place header (content ++ (rest ++ r)) here) in
-      (plain-block (t .number) place depth (tags ++ later) h, blocks-before x r d later b)
+      (plain-block (t .number) place depth (tags ++ later) h, blocks-before x r (item-places xs place header content rest r e .after) later b)
   blocks-before (block {place} {depth} {n} opener inside closer {rest} {inner} {tags} l opened x closed y) r e later b =
-      let here : drop place xs ≡ opener ++ (inside ++ (closer ++ (rest ++ r))) = e ∙ simp append-assoc in
-      let d₁ : drop (place + length opener) xs ≡ inside ++ (closer ++ (rest ++ r)) = behind xs place opener (inside ++ (closer ++ (rest ++ r))) here in
-      let d₂ : drop (place + length opener + length inside) xs ≡ closer ++ (rest ++ r) = behind xs (place + length opener) inside (closer ++ (rest ++ r)) d₁ in
-      let d₃ : drop (place + length opener + length inside + length closer) xs ≡ rest ++ r = behind xs (place + length opener + length inside) closer (rest ++ r) d₂ in
+      let p = block-places xs place opener inside closer rest r e in
       let c : Seen = seen (place + length opener + length inside) depth (tag (closing n) 0) in
       let follows : (inner ++ (c ∷ tags)) ++ later ≡ inner ++ (c ∷ (tags ++ later)) = append-assoc inner (c ∷ tags) later in (
         record {
           inside = inside;
           items = items-of x;
-          body = the-body xs small place depth n opener inside closer (rest ++ r) inner here opened x closed;
+          body = the-body xs small place depth n opener inside closer (rest ++ r) inner (p .here) opened x closed;
           inner = inner;
           after = tags ++ later;
           list = x;
           follows = follows;
           same-tags = tags-of x;
-          hands-over = handed-over xs small place depth n opener inside closer (rest ++ r) inner here opened x closed;
+          hands-over = handed-over xs small place depth n opener inside closer (rest ++ r) inner (p .here) opened x closed;
         },
-        subst (Blocks xs) (sym follows) (blocks-before x (closer ++ (rest ++ r)) d₁ (c ∷ (tags ++ later)) (tt, blocks-before y r d₃ later b)),
+        subst (Blocks xs) (sym follows) (blocks-before x (closer ++ (rest ++ r)) (p .within) (c ∷ (tags ++ later)) (tt, blocks-before y r (p .after) later b)),
       )
 
 -- in a string that passes, every opening tag opens a block whose inside is the body that `get_tagged_body` hands over there

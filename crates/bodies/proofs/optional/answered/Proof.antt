@@ -1,0 +1,23 @@
+-- `bodies::answered` meets its contract: each case is the same on paper.
+-- Assumes nothing.
+use borrow.Author.Needs.{needs}
+use mathlib.Core.Path.{sym, ap}
+use Rattle.bodies.specs.Scan.{paperBody}
+use Rattle.bodies.specs.Optional as paper
+use Rattle.bodies.proofs.optional.answered.Statement.{statement}
+use Rattle.bodies.proofs.optional.answered.Tie as tie
+
+enum-known-answer : tie.Need-enum-known-answer
+enum-known-answer c = search needs
+
+enum-known-answer-2 : tie.Need-enum-known-answer-2
+enum-known-answer-2 c = search needs
+
+returns : tie.Need-returns
+returns c = simp (c .before .answer .given .1)
+
+returns-2 : tie.Need-returns-2
+returns-2 c = simp (c .before .answer2 .given .1)
+
+pub answered-spec : {M : Type 1} → statement M
+answered-spec = tie.close (tie.spec enum-known-answer enum-known-answer-2 returns returns-2)
