@@ -17,9 +17,16 @@ pub(crate) fn read(function: usize, n: [u64; 6], buf: &[u8], answer: &mut [u64; 
             n[2] as usize,
             answer,
         ),
-        5 => thaolisem::thaolisem_walk(buf, n[0] as usize, answer),
-        6 => thaolisem::thaolisem_decode_value(buf, n[0] as usize, answer),
-        7 => thaolisem::thaolisem_decode_header(buf, n[0] as usize, answer),
+        5 => thaolisem::thaolisem_get_optional_tagged_body(
+            byte(n[0]),
+            n[1] as usize,
+            buf,
+            n[2] as usize,
+            answer,
+        ),
+        6 => thaolisem::thaolisem_walk(buf, n[0] as usize, answer),
+        7 => thaolisem::thaolisem_decode_value(buf, n[0] as usize, answer),
+        8 => thaolisem::thaolisem_decode_header(buf, n[0] as usize, answer),
         _ => thaolisem::thaolisem_check_utf8(buf, answer),
     }
 }
@@ -30,10 +37,10 @@ fn write_tagged(function: usize, n: [u64; 6], buf: &mut [u8], answer: &mut [u64;
     let second = byte(n[1]);
     let place = n[3] as usize;
     match function {
-        15 => thaolisem::thaolisem_encode_tag(first, second, word(n[2]), buf, place, answer),
-        16 => thaolisem::thaolisem_encode_unsigned(first, second, n[2], buf, place, answer),
-        17 => thaolisem::thaolisem_encode_signed(first, second, signed(n[2]), buf, place, answer),
-        18 => thaolisem::thaolisem_encode_enumerated(first, second, n[2], buf, place, answer),
+        16 => thaolisem::thaolisem_encode_tag(first, second, word(n[2]), buf, place, answer),
+        17 => thaolisem::thaolisem_encode_unsigned(first, second, n[2], buf, place, answer),
+        18 => thaolisem::thaolisem_encode_signed(first, second, signed(n[2]), buf, place, answer),
+        19 => thaolisem::thaolisem_encode_enumerated(first, second, n[2], buf, place, answer),
         _ => thaolisem::thaolisem_encode_context_bool(first, second, buf, n[2] as usize, answer),
     }
 }
@@ -49,8 +56,8 @@ pub(crate) fn write(
     let first = byte(n[0]);
     let place = n[5] as usize;
     match function {
-        15..=19 => write_tagged(function, n, buf, answer),
-        20 => thaolisem::thaolisem_encode_value(
+        16..=20 => write_tagged(function, n, buf, answer),
+        21 => thaolisem::thaolisem_encode_value(
             first,
             n[1],
             n[2],

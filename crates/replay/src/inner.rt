@@ -11,16 +11,16 @@ use types::TagNumber;
 // Whether there is such a function, and its numbers name something: 2, 4 or 8 bytes; one of four classes, and of the first a number below 16.
 pub(crate) fn names(function: usize, n: [u64; 6]) -> bool {
     match function {
-        10 => match n[0] {
+        11 => match n[0] {
             2 | 4 | 8 => true,
             _ => false,
         },
-        12..=13 => match n[0] {
+        13..=14 => match n[0] {
             1 => n[1] < 16,
             2..=4 => true,
             _ => false,
         },
-        _ => function <= 26,
+        _ => function <= 27,
     }
 }
 
@@ -49,11 +49,11 @@ fn read_bytes(count: u64, buf: &[u8], place: usize) -> [u64; 8] {
 // What a reader of bytes answers, which are the first three.
 fn read_plain(function: usize, n: [u64; 6], buf: &[u8]) -> [u64; 8] {
     match function {
-        9 => match numbers::read_byte(buf, n[0] as usize) {
+        10 => match numbers::read_byte(buf, n[0] as usize) {
             ByteRead::Byte(byte, next) => told::accepted(next, byte as u64, 0),
             ByteRead::Refused(refusal) => told::refused(refusal),
         },
-        10 => read_bytes(n[0], buf, n[1] as usize),
+        11 => read_bytes(n[0], buf, n[1] as usize),
         _ => told::slice(numbers::read_slice(word(n[0]), buf, n[1] as usize)),
     }
 }
@@ -61,12 +61,12 @@ fn read_plain(function: usize, n: [u64; 6], buf: &[u8]) -> [u64; 8] {
 // What the reader of that number answers.
 pub(crate) fn read(function: usize, n: [u64; 6], buf: &[u8]) -> [u64; 8] {
     match function {
-        9..=11 => read_plain(function, n, buf),
-        12 => match tags::decode_expected(expected(n[0], byte(n[1])), buf, n[2] as usize) {
+        10..=12 => read_plain(function, n, buf),
+        13 => match tags::decode_expected(expected(n[0], byte(n[1])), buf, n[2] as usize) {
             TagRead::Read(tag, next) => told::tag(0, next, tag),
             TagRead::Refused(refusal) => told::refused(refusal),
         },
-        13 => match tags::decode(buf, n[2] as usize) {
+        14 => match tags::decode(buf, n[2] as usize) {
             TagRead::Read(tag, next) => told::outcome(
                 tags::expect_number(tag, expected(n[0], byte(n[1]))),
                 next,
@@ -85,9 +85,9 @@ pub(crate) fn write(function: usize, n: [u64; 6], content: &[u8], buf: &mut [u8]
     let first = byte(n[0]);
     let place = n[1] as usize;
     match function {
-        22 => told::written(numbers::push(first, buf, place)),
-        23 => told::written(tags::encode_opening_tag(first, buf, place)),
-        24 => told::written(tags::encode_closing_tag(first, buf, place)),
+        23 => told::written(numbers::push(first, buf, place)),
+        24 => told::written(tags::encode_opening_tag(first, buf, place)),
+        25 => told::written(tags::encode_closing_tag(first, buf, place)),
         _ => told::written(numbers::extend_from_slice(content, buf, n[0] as usize)),
     }
 }

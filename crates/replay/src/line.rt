@@ -16,12 +16,12 @@ const LONGEST_LINE: usize = 140000;
 fn answer_of(function: usize, n: [u64; 6], content: &[u8], buf: &mut [u8]) -> [u64; 8] {
     let mut answer = [0u64; 8];
     match function {
-        0..=8 => {
+        0..=9 => {
             exported::read(function, n, content, &mut answer);
             answer
         }
-        9..=14 => inner::read(function, n, content),
-        15..=21 => {
+        10..=15 => inner::read(function, n, content),
+        16..=22 => {
             exported::write(function, n, content, buf, &mut answer);
             answer
         }
@@ -37,21 +37,21 @@ fn put_answer(
     buf: &mut [u8],
     text: &mut [u8],
 ) -> usize {
-    if function == 26 {
+    if function == 27 {
         return put_part(word(n[0]), content, n[1] as usize, text, 0);
     }
     let answer = answer_of(function, n, content, buf);
     let end = put_numbers(answer, text, 0);
-    if function < 15 {
+    if function < 16 {
         return end;
     }
     put_bytes(buf, text, end)
 }
 
-// Puts the answer to a line; answers the text's end. In the table the kinds of its arguments follow each function's name; its rows begin with the functions 0, 9, 15 and 22.
+// Puts the answer to a line; answers the text's end. In the table the kinds of its arguments follow each function's name; its rows begin with the functions 0, 10, 16 and 23.
 pub(crate) fn put_line(line: &[u8], content: &mut [u8], buf: &mut [u8], text: &mut [u8]) -> usize {
     let table =
-        b"decode_tag rn decode_unsigned wrn decode_signed wrn get_tagged_body nrn get_tagged_body_for_tag bnrn walk rn decode_value rn decode_header rn check_utf8 r \
+        b"decode_tag rn decode_unsigned wrn decode_signed wrn get_tagged_body nrn get_tagged_body_for_tag bnrn get_optional_tagged_body bnrn walk rn decode_value rn decode_header rn check_utf8 r \
           read_byte rn read_bytes brn read_slice wrn decode_expected bbrn expect_number bbrn expect_value wrn \
           encode_tag bbwln encode_unsigned bbnln encode_signed bbsln encode_enumerated bbnln encode_context_bool bbln encode_value bnnnnrln encode_header bnnnnln \
           push bln encode_opening_tag bln encode_closing_tag bln extend_from_slice rln part wrn";

@@ -39,7 +39,10 @@ use Rattle.tags.proofs.Single.{single-tag-read}
 use Rattle.bodies.specs.Scan.{Body, body, Counted, counted, paperBody}
 use Rattle.bodies.specs.declared.body.BodyRead.{BodyRead}
 use Rattle.bodies.specs.declared.body.BodyRead.the-variants as b
-use Rattle.bodies.proofs.Single.{single-body}
+use Rattle.bodies.specs.Optional.{Absence, endOfBuffer, otherTag, Optional, answered, absent, absenceOf, paperOptional}
+use Rattle.bodies.specs.declared.optional.OptionalBodyRead.{OptionalBodyRead}
+use Rattle.bodies.specs.declared.optional.OptionalBodyRead.the-variants as ob
+use Rattle.bodies.proofs.Single.{single-body, single-optional}
 use Rattle.walk.specs.Walk.{Report, report, paperWalked}
 use Rattle.walk.specs.declared.walking.Walked.{Walked}
 use Rattle.walk.proofs.Single.{single-walked}
@@ -62,7 +65,7 @@ use Rattle.headers.specs.declared.reading.HeaderRead.{HeaderRead}
 use Rattle.headers.specs.declared.reading.HeaderRead.the-variants as hr
 use Rattle.headers.proofs.Control.{ofType, type-back}
 use Rattle.headers.proofs.Single.{ofFields, header-back, single-header-read}
-use Rattle.thaolisem.specs.Told.{toldRefusal, toldTag, toldUnsigned, toldSigned, toldBody, toldWalk, valueTold, toldValue, headerTold, toldHeader, toldCheck, toldWrite}
+use Rattle.thaolisem.specs.Told.{toldRefusal, toldTag, toldUnsigned, toldSigned, toldBody, absenceTold, toldOptional, toldWalk, valueTold, toldValue, headerTold, toldHeader, toldCheck, toldWrite}
 
 -- what can be told back from its numbers is told apart by them
 apart : {A B : Type 0} (told : A → B) (back : B → A) (x y : A) → back (told x) ≡ x → back (told y) ≡ y → told x ≡ told y → x ≡ y
@@ -174,6 +177,43 @@ body-again (b.Refused x tags) =
 
 pub single-told-body : (x y : BodyRead) → toldBody (paperBody x) ≡ toldBody (paperBody y) → x ≡ y
 single-told-body x y e = single-body x y (apart toldBody bodyBack (paperBody x) (paperBody y) (body-again x) (body-again y) e)
+
+-- what stands in the place of a body that is absent
+abbrev absenceIn : Carried → Absence
+absenceIn (amount k) = endOfBuffer
+absenceIn (tagFound t) = otherTag t
+
+absence-again : (place : ℕ) (x : Absence) → absenceIn (carried (absenceTold place x)) ≡ x
+absence-again place endOfBuffer = refl
+absence-again place (otherTag t) = by-class (t .number) (t .value)
+  where
+    by-class : (x : Number) (v : ℕ) → absenceIn (carried (absenceTold place (otherTag (tag x v)))) ≡ otherTag (tag x v)
+    by-class (application k) v = refl
+    by-class (context k) v = refl
+    by-class (opening k) v = refl
+    by-class (closing k) v = refl
+
+abbrev optionalBack : List ℕ → Optional
+optionalBack l = if (eqb (at l 6) 2) (absent (absenceIn (carried l))) (answered (bodyBack l))
+
+absent-again : (place : ℕ) (x : Absence) → optionalBack (absenceTold place x) ≡ absent (absenceIn (carried (absenceTold place x)))
+absent-again place endOfBuffer = refl
+absent-again place (otherTag t) = refl
+
+-- a refusal has no seventh number
+none-seventh : (n tags : ℕ) (c : Carried) → at (toldRefusal n c tags) 6 ≡ 0
+none-seventh n tags (amount k) = refl
+none-seventh n tags (tagFound t) = refl
+
+optional-again : (place : ℕ) (x : OptionalBodyRead) → optionalBack (toldOptional place (paperOptional x)) ≡ paperOptional x
+optional-again place (ob.Body start size n next tags) = refl
+optional-again place (ob.Absent x) = absent-again place (absenceOf x) ∙ ap absent (absence-again place (absenceOf x))
+optional-again place (ob.Refused x tags) = simp (none-seventh (table x .number) tags (table x .carries)) (ap answered (body-again (b.Refused x tags)))
+
+-- the place is the one that was asked for
+pub single-told-optional : (place : ℕ) (x y : OptionalBodyRead) → toldOptional place (paperOptional x) ≡ toldOptional place (paperOptional y) → x ≡ y
+single-told-optional place x y e =
+    single-optional x y (apart (toldOptional place) optionalBack (paperOptional x) (paperOptional y) (optional-again place x) (optional-again place y) e)
 
 -- the count of a walk that passed, and of one that was refused
 abbrev walkIn : Answer ℕ → ℕ → Report
