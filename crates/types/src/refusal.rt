@@ -52,9 +52,10 @@ impl Refusal {
         ensures { λ r. ⌜ paperRow r ≡ table self ⌝ }
     {
         match self {
+            // First, for the compiler, which spares the first arm a jump: bytes run out most often.
+            Refusal::BytesRunOut(end) => RefusalRow::of_amount(3, end),
             Refusal::BufferTooLong(length) => RefusalRow::of_amount(1, length),
             Refusal::PlacePastEnd(place) => RefusalRow::of_amount(2, place),
-            Refusal::BytesRunOut(end) => RefusalRow::of_amount(3, end),
             Refusal::OtherTagNumber(found) => RefusalRow::of_tag(4, found),
             Refusal::OtherTagValue(found) => RefusalRow::of_tag(5, found),
             Refusal::NoOpeningTag(found) => RefusalRow::of_tag(6, found),
