@@ -12,7 +12,7 @@ use protocol::{put_hex, Read};
 pub fn ask(what: &Read, buf: &[u8], place: usize) -> Option<String> {
     let mut reader = Reader { index: place, end: buf.len() };
     match what {
-        Read::Walk => None,
+        Read::OptionalBody { .. } | Read::Walk => None,
         Read::Utf8 => Some(utf8(&buf[place..])),
         Read::Value => values::read(&mut reader, buf),
         Read::Header => headers::read(&mut reader, buf),
@@ -53,7 +53,9 @@ fn asked(what: &Read, reader: &mut Reader, buf: &[u8]) -> Result<String, Error> 
             let body = get_tagged_body_for_tag(reader, buf, *number, "")?;
             format!("{} {number}", lies(body, buf))
         }
-        Read::Walk | Read::Utf8 | Read::Value | Read::Header => unreachable!(),
+        Read::OptionalBody { .. } | Read::Walk | Read::Utf8 | Read::Value | Read::Header => {
+            unreachable!()
+        }
     };
     Ok(format!("ok {answer} {}", reader.index))
 }

@@ -49,6 +49,9 @@ fn read(what: &Read) -> String {
         Read::BodyFor { number, allowance } => {
             format!("get_tagged_body_for_tag {number} {allowance}")
         }
+        Read::OptionalBody { number, allowance } => {
+            format!("get_optional_tagged_body {number} {allowance}")
+        }
         Read::Walk => "walk".to_string(),
         Read::Value => "decode_value".to_string(),
         Read::Header => "decode_header".to_string(),

@@ -10,6 +10,10 @@ const CARRIED: usize = 3;
 const VALUE: usize = 4;
 const COUNT: usize = 5;
 
+// Whether an optional body is there: the last field of its answer.
+pub const PRESENT: u64 = 1;
+pub const ABSENT: u64 = 2;
+
 // An accepted answer.
 pub fn accepted(next: u64, fields: &[u64]) -> [u64; 8] {
     let mut numbers = [0; 8];

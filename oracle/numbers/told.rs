@@ -1,6 +1,6 @@
 // Answers in numbers, from the words of an answer; none where those words are not an answer to the request.
 use crate::asked::hex;
-use crate::numbers::{accepted, line, refused, Carried};
+use crate::numbers::{accepted, line, refused, Carried, ABSENT, PRESENT};
 use crate::told_value::{header, value};
 use protocol::{Read, Request, Words};
 
@@ -12,6 +12,7 @@ pub fn told(request: &Request, answer: &str) -> Option<String> {
             Request::Read { what, place, .. } => line(read(what, *place, &mut words)?),
             Request::Write { .. } => line(accepted(words.number()?, &[])),
         },
+        "absent" => line(absent(request, &mut words)?),
         "refused" => line(refusal(request, &mut words)?),
         _ => return None,
     };
@@ -56,10 +57,11 @@ fn read(what: &Read, place: usize, words: &mut Words) -> Option<[u64; 8]> {
             "-" => (vec![], words.number()?),
             _ => return None,
         },
-        Read::Body { .. } | Read::BodyFor { .. } => {
-            let [start, len, number] = [words.number()?, words.number()?, words.number()?];
-            let next = words.number()?;
-            (vec![start, len, number, words.number()?], next)
+        Read::Body { .. } | Read::BodyFor { .. } => body(words)?,
+        Read::OptionalBody { .. } => {
+            let (mut fields, next) = body(words)?;
+            fields.push(PRESENT);
+            (fields, next)
         }
         Read::Walk => (vec![words.number()?], 0),
         Read::Value => (value(words)?, words.number()?),
@@ -67,6 +69,25 @@ fn read(what: &Read, place: usize, words: &mut Words) -> Option<[u64; 8]> {
         Read::Utf8 => (vec![], 0),
     };
     Some(accepted(next, &fields))
+}
+
+// A body's start, length, number and count, and the next place.
+fn body(words: &mut Words) -> Option<(Vec<u64>, u64)> {
+    let [start, len, number] = [words.number()?, words.number()?, words.number()?];
+    let next = words.number()?;
+    Some((vec![start, len, number, words.number()?], next))
+}
+
+// The numbers of an absent body; its next place is the request's own, as nothing was read.
+fn absent(request: &Request, words: &mut Words) -> Option<[u64; 8]> {
+    let Request::Read { what: Read::OptionalBody { .. }, place, .. } = request else {
+        return None;
+    };
+    let [class, number, value] = match words.word()? {
+        "end" => [0; 3],
+        letter => [class(letter)?, words.number()?, words.number()?],
+    };
+    Some(accepted(*place as u64, &[class, number, value, 0, ABSENT]))
 }
 
 // The three numbers of a tag.
@@ -94,9 +115,10 @@ fn refusal(request: &Request, words: &mut Words) -> Option<[u64; 8]> {
         None => Carried::Amount(first.parse().ok()?),
     };
     let count = match request {
-        Request::Read { what: Read::Body { .. } | Read::BodyFor { .. } | Read::Walk, .. } => {
-            words.number()?
-        }
+        Request::Read {
+            what: Read::Body { .. } | Read::BodyFor { .. } | Read::OptionalBody { .. } | Read::Walk,
+            ..
+        } => words.number()?,
         _ => 0,
     };
     Some(refused(number, carried, count))

@@ -45,6 +45,7 @@ fn read(name: &str, words: &mut Words) -> Option<Read> {
         "expval" => Read::ExpectValue(words.number()?),
         "body" => Read::Body { allowance: words.number()? },
         "bodyfor" => Read::BodyFor { number: words.number()?, allowance: words.number()? },
+        "opt" => Read::OptionalBody { number: words.number()?, allowance: words.number()? },
         "walk" => Read::Walk,
         "value" => Read::Value,
         "utf8" => Read::Utf8,

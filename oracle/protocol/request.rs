@@ -47,6 +47,7 @@ pub enum Read {
     ExpectValue(u32),
     Body { allowance: u64 },
     BodyFor { number: u8, allowance: u64 },
+    OptionalBody { number: u8, allowance: u64 },
     Walk,
     Value,
     Utf8,

@@ -1,5 +1,5 @@
 // Answers in the form of the protocol.
-use crate::bodies::{body, body_for, Body};
+use crate::bodies::{body, body_for, optional_body, Body, OptionalBody};
 use crate::headers::header;
 use crate::integers::{signed, unsigned};
 use crate::reading::{byte, open, slice};
@@ -30,13 +30,15 @@ fn write_answer(what: &Write, place: usize, capacity: usize) -> String {
 
 fn read_answer(what: &Read, buf: &[u8], place: usize) -> String {
     if let Err(refusal) = open(buf, place) {
-        let counts = matches!(what, Read::Body { .. } | Read::BodyFor { .. } | Read::Walk);
-        return if counts { format!("{refusal} 0") } else { refusal.to_string() };
+        return if counts(what) { format!("{refusal} 0") } else { refusal.to_string() };
     }
     match what {
         Read::Body { allowance } => body_answer(body(*allowance, buf, place)),
         Read::BodyFor { number, allowance } => {
             body_answer(body_for(*number, *allowance, buf, place))
+        }
+        Read::OptionalBody { number, allowance } => {
+            optional_answer(optional_body(*number, *allowance, buf, place))
         }
         Read::Walk => match walk(buf, place) {
             (Ok(()), count) => format!("ok {count}"),
@@ -46,12 +48,29 @@ fn read_answer(what: &Read, buf: &[u8], place: usize) -> String {
     }
 }
 
+// Whether a refusal of this read ends in the count of tags.
+fn counts(what: &Read) -> bool {
+    matches!(
+        what,
+        Read::Body { .. } | Read::BodyFor { .. } | Read::OptionalBody { .. } | Read::Walk
+    )
+}
+
 fn body_answer((found, count): (Result<Body, Refusal>, u64)) -> String {
     match found {
         Ok(Body { start, len, number, next }) => {
             format!("ok {start} {len} {number} {next} {count}")
         }
         Err(refusal) => format!("{refusal} {count}"),
+    }
+}
+
+fn optional_answer(answer: OptionalBody) -> String {
+    match answer {
+        OptionalBody::Present(body, count) => body_answer((Ok(body), count)),
+        OptionalBody::Absent(None) => "absent end".to_string(),
+        OptionalBody::Absent(Some(found)) => format!("absent {found}"),
+        OptionalBody::Refused(refusal, count) => body_answer((Err(refusal), count)),
     }
 }
 
@@ -76,7 +95,9 @@ fn accepted(what: &Read, buf: &[u8], place: usize) -> Result<String, Refusal> {
         Read::Value => printed(value(buf, place)?),
         Read::Header => printed(header(buf, place)?),
         Read::Utf8 => utf8::check(&buf[place..]).map(|()| "ok".to_string())?,
-        Read::Body { .. } | Read::BodyFor { .. } | Read::Walk => unreachable!(),
+        Read::Body { .. } | Read::BodyFor { .. } | Read::OptionalBody { .. } | Read::Walk => {
+            unreachable!()
+        }
     })
 }
 

@@ -1,13 +1,21 @@
 // Tagged bodies, with an allowance of tags.
 use crate::refusal::{refuse, Refusal};
 use crate::tags::{content_length, expected, tag};
-use protocol::{Class, TagName};
+use protocol::{Class, Tag, TagName};
 
 pub struct Body {
     pub start: usize,
     pub len: usize,
     pub number: u8,
     pub next: usize,
+}
+
+// The three answers where a body may stand; with a body and with a refusal the tags read after the opening.
+pub enum OptionalBody {
+    Present(Body, u64),
+    // With the tag found, none at the buffer's end.
+    Absent(Option<Tag>),
+    Refused(Refusal, u64),
 }
 
 // The body at a place, and the tags read after the opening.
@@ -32,6 +40,24 @@ pub fn body_for(
     match expected(TagName { class: Class::Opening, number }, buf, place) {
         Ok((_, start)) => after_opening(number, allowance, buf, start),
         Err(refusal) => (Err(refusal), 0),
+    }
+}
+
+// The body at a place if an opening of this number stands there.
+pub fn optional_body(number: u8, allowance: u64, buf: &[u8], place: usize) -> OptionalBody {
+    if place == buf.len() {
+        return OptionalBody::Absent(None);
+    }
+    let (found, start) = match tag(buf, place) {
+        Ok(read) => read,
+        Err(refusal) => return OptionalBody::Refused(refusal, 0),
+    };
+    if found.name != (TagName { class: Class::Opening, number }) {
+        return OptionalBody::Absent(Some(found));
+    }
+    match after_opening(number, allowance, buf, start) {
+        (Ok(body), count) => OptionalBody::Present(body, count),
+        (Err(refusal), count) => OptionalBody::Refused(refusal, count),
     }
 }
 

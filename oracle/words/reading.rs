@@ -15,6 +15,7 @@ pub fn answer(what: &Read, buf: &[u8], place: usize) -> String {
             let found = get_tagged_body_for_tag_within(allowance, &mut reader, buf, *number);
             body(found, &reader, buf)
         }
+        Read::OptionalBody { .. } => todo!(),
         Read::Walk => match walk(&reader, buf) {
             Ok(count) => format!("ok {count}"),
             Err(refusal) => format!("{} {}", refused(refusal), refusal.tags),

@@ -43,6 +43,7 @@ fn ends(longest: usize, place: usize, end: usize) -> Option<Outside> {
 
 fn read(what: &Read, buf: &[u8], place: usize, port: &str) -> Option<Outside> {
     match what {
+        Read::OptionalBody { .. } => answering("the Rust has no optional body", "none"),
         Read::Walk => answering("the Rust has no strict walk", "none"),
         Read::Body { allowance } | Read::BodyFor { allowance, .. }
             if *allowance < buf.len() as u64 =>

@@ -5,11 +5,12 @@ const TAG_BYTES: [u8; 15] =
     [0x00, 0x02, 0x11, 0x15, 0x21, 0x25, 0x2E, 0x2F, 0x39, 0x3D, 0x3E, 0x3F, 0xF9, 0xFE, 0xFF];
 const BLOCK_BYTES: [u8; 7] = [0x11, 0x15, 0x21, 0x2E, 0x2F, 0x3E, 0x3F];
 
-const ASKS: [&str; 5] = ["body 9", "bodyfor 3 9", "bodyfor 2 9", "walk", "value"];
+const ASKS: [&str; 7] =
+    ["body 9", "bodyfor 3 9", "bodyfor 2 9", "opt 3 9", "opt 2 9", "walk", "value"];
 const BLOCK_ASKS: [&str; 2] = ["body 9", "walk"];
 
 // Words of one to four letters, and of one to six.
-pub const SIZE: u64 = words(15, 4) * 5;
+pub const SIZE: u64 = words(15, 4) * 7;
 pub const BLOCKS_SIZE: u64 = words(7, 6) * 2;
 
 const fn words(letters: u64, longest: u32) -> u64 {
@@ -21,8 +22,8 @@ const fn words(letters: u64, longest: u32) -> u64 {
 }
 
 pub fn nth(number: u64) -> String {
-    let ask = ASKS[(number % 5) as usize];
-    read(ask, 0, &word(number / 5, &TAG_BYTES))
+    let ask = ASKS[(number % 7) as usize];
+    read(ask, 0, &word(number / 7, &TAG_BYTES))
 }
 
 // These stand behind an opening of 3.

@@ -66,7 +66,7 @@ pub fn bytes(random: &mut Random) -> String {
     let len = random.up_to(10);
     let number = random.below(16);
     let class = random.of(&["A", "C", "O", "X"]);
-    let ask = match random.below(16) {
+    let ask = match random.below(17) {
         0 => "rbyte".to_string(),
         1 => format!("rbytes {}", random.of(&[2, 4, 8])),
         2 => format!("rslice {len}"),
@@ -78,9 +78,10 @@ pub fn bytes(random: &mut Random) -> String {
         8 => format!("expval {number}"),
         9 => format!("body {}", length + len),
         10 => format!("bodyfor {number} {}", length + len),
-        11 => "walk".to_string(),
-        12 => "header".to_string(),
-        13 => format!("part {len}"),
+        11 => format!("opt {number} {}", length + len),
+        12 => "walk".to_string(),
+        13 => "header".to_string(),
+        14 => format!("part {len}"),
         _ => "value".to_string(),
     };
     read(&ask, place, &buf)

@@ -25,10 +25,12 @@ pub fn draw(random: &mut Random) -> String {
         damage(&mut buf, random);
     }
     let allowance = if random.once_in(4) { random.up_to(12) } else { buf.len() + random.up_to(3) };
-    let ask = match random.below(5) {
+    let asked = if random.once_in(6) { 15 } else { number };
+    let ask = match random.below(6) {
         0 | 1 => format!("body {allowance}"),
-        2 => format!("bodyfor {} {allowance}", if random.once_in(6) { 15 } else { number }),
-        3 => "tag".to_string(),
+        2 => format!("bodyfor {asked} {allowance}"),
+        3 => format!("opt {asked} {allowance}"),
+        4 => "tag".to_string(),
         _ => "walk".to_string(),
     };
     read(&ask, place.min(buf.len()), &buf)

@@ -1,6 +1,9 @@
 // Long buffers, around 65,535 bytes.
 use crate::making::lines::{read, with_bytes, write};
 
+const ASKS: [&str; 8] =
+    ["walk", "body 70000", "bodyfor 3 70000", "opt 3 70000", "body 65533", "tag", "utf8", "rbyte"];
+
 pub fn all() -> Vec<String> {
     let mut lines = Vec::new();
     for length in [65_534, 65_535, 65_536, 69_000] {
@@ -18,7 +21,7 @@ fn readings(length: usize, lines: &mut Vec<String>) {
     let opened = vec![0x3E; length];
     for (buf, place) in [(&null, 0), (&body, 0), (&opened, 0), (&body, length - 1), (&body, length)]
     {
-        for ask in ["walk", "body 70000", "bodyfor 3 70000", "body 65533", "tag", "utf8", "rbyte"] {
+        for ask in ASKS {
             lines.push(read(ask, place, buf));
         }
     }

@@ -28,6 +28,7 @@ fn nested(depth: u8, closed: u8, numbers: u8, lines: &mut Vec<String>) {
             lines.push(read(&format!("body {allowance}"), 0, &buf));
         }
         lines.push(read(&format!("bodyfor {} 100", numbers % 3), 0, &buf));
+        lines.push(read(&format!("opt {} 100", numbers % 3), 0, &buf));
         lines.push(read("walk", 0, &buf));
         lines.push(read("walk", 1, &buf));
     }

@@ -1,7 +1,7 @@
 // All buffers of up to two bytes, at every place, under every read.
 use crate::making::lines::read;
 
-const READS: u64 = 18;
+const READS: u64 = 19;
 const PAIRS: u64 = 1 + 256 * 2 + 65_536 * 3;
 
 pub const SIZE: u64 = READS * PAIRS;
@@ -35,9 +35,10 @@ fn ask_of(number: u64, place: usize, buf: &[u8]) -> String {
     ];
     match number {
         14 => format!("bodyfor {} 9", (first >> 4) + other),
-        15 => format!("expect {}", tag_name(first, 0)),
-        16 => format!("expnum {}", tag_name(first, other)),
-        17 => format!("expval {}", u32::from(first % 8) + u32::from(other)),
+        15 => format!("opt {} 9", (first >> 4) + other),
+        16 => format!("expect {}", tag_name(first, 0)),
+        17 => format!("expnum {}", tag_name(first, other)),
+        18 => format!("expval {}", u32::from(first % 8) + u32::from(other)),
         _ => asks[number as usize].to_string(),
     }
 }
