@@ -12,6 +12,9 @@
      unsigned    0, next place, value
      signed      0, next place, value as int64_t
      body        0, next place, where its view starts, the view's length, the body's number, count
+     optional    as a body, and 1 behind the count: the body is there; or 0, the place asked for, class,
+                 number, value, 0, 2: it is absent, and this tag stands there, or, where the class is 0,
+                 the buffer ends there
      walk        0, 0, count
      value       0, next place, case, a, b, c, d
      header      0, next place, kind, a, b, c, d
@@ -97,6 +100,12 @@ enum {
     THAOLISEM_SEGMENT_ACK = 4  /* invoke id, sequence number, window size */
 };
 
+/* Whether an optional body is there. */
+enum {
+    THAOLISEM_PRESENT = 1, /* the body is told */
+    THAOLISEM_ABSENT = 2   /* what stands in its place is told: a tag, or, class 0, the buffer's end */
+};
+
 /* Refusals, and what they carry. */
 enum {
     THAOLISEM_BUFFER_TOO_LONG = 1,           /* buffer, or lent content, over 65,535 bytes: its length */
@@ -146,6 +155,9 @@ enum {
     THAOLISEM_BODY_NUMBER = 4,
     THAOLISEM_BODY_TAGS = 5,
 
+    /* an optional body: as a body or, where it is absent, as a tag */
+    THAOLISEM_PRESENCE = 6,
+
     /* the walk */
     THAOLISEM_WALK_TAGS = 2,
 
@@ -194,11 +206,14 @@ void thaolisem_decode_unsigned(uint32_t content, const uint8_t *buf, size_t len,
 /* The signed integer, in two's complement, whose content begins at a place. Refused 1, 2, 7, 3. */
 void thaolisem_decode_signed(uint32_t content, const uint8_t *buf, size_t len, size_t place, uint64_t answer[8]);
 
-/* The body whose opening tag is at a place, with so many tags read after its opening at the most. Refused 1, 2, 3, 6, 14; only 3 and 6 say that there is none. */
+/* The body whose opening tag is at a place, with so many tags read after its opening at the most. Refused 1, 2, 3, 6, 14; 3 also where a body is begun and cut. */
 void thaolisem_get_tagged_body(size_t allowance, const uint8_t *buf, size_t len, size_t place, uint64_t answer[8]);
 
-/* The same, where the opening tag is to have the number expected. Refused 1, 2, 3, 4, 14; only 3 and 4 say that there is none. */
+/* The same, where the opening tag is to have the number expected. Refused 1, 2, 3, 4, 14; 3 also where a body is begun and cut. */
 void thaolisem_get_tagged_body_for_tag(uint8_t expected, size_t allowance, const uint8_t *buf, size_t len, size_t place, uint64_t answer[8]);
+
+/* The same body if one stands at that place: THAOLISEM_PRESENT, or THAOLISEM_ABSENT where the place is the buffer's end or a whole tag other than the opening of that number stands there, and then there is none. Refused 1, 2, 3, 14; no refusal says that there is none. */
+void thaolisem_get_optional_tagged_body(uint8_t expected, size_t allowance, const uint8_t *buf, size_t len, size_t place, uint64_t answer[8]);
 
 /* The strict walk, from a place to the buffer's end: every block closed by its own tag, all content inside. Refused 1, 2, 3, 15, 16, with the tags accepted before. */
 void thaolisem_walk(const uint8_t *buf, size_t len, size_t place, uint64_t answer[8]);

@@ -1,4 +1,4 @@
-// Document 01 a second time, written from it and from docs/DECISIONS.md alone, the optional body from the text of issue 21: what the port must answer to each request.
+// Document 01 a second time, written from it and from docs/DECISIONS.md alone: what the port must answer to each request.
 pub mod bodies;
 pub mod headers;
 pub mod integers;

@@ -1,4 +1,4 @@
-//! Writes that the crate's types cannot say, by its raw calls: a text that is not UTF-8, a service choice above 33.
+//! What the crate's types cannot say, by its raw calls: a text that is not UTF-8, a service choice above 33, the tag that stands where a body is absent.
 use protocol::Header;
 use thaolisem::raw::{self, Numbers};
 use thaolisem::{Refusal, Writer};
@@ -8,6 +8,21 @@ const TEXT: u8 = 7;
 
 /// Where the next place stands among the eight numbers.
 const NEXT: usize = 1;
+
+/// The number that says that a body is absent.
+const ABSENT: u64 = 2;
+
+/// What stands where a body is absent: the buffer's end, told by class 0, or a tag. Nothing was read, so the next place is the place, and no tags are counted.
+pub fn absent(number: u8, allowance: usize, buf: &[u8], place: usize) -> String {
+    let told = raw::get_optional_tagged_body(number, allowance, buf, place);
+    let [_, _, class, number, value, ..] = told;
+    match ["end", "A", "C", "O", "X"].get(class as usize) {
+        _ if told != [0, place as u64, class, number, value, 0, ABSENT, 0] => format!("{told:?}"),
+        Some(end) if [class, number, value] == [0; 3] => format!("absent {end}"),
+        Some(letter) => format!("absent {letter} {number} {value}"),
+        None => format!("{told:?}"),
+    }
+}
 
 /// Writes these bytes as a text, whatever they are.
 pub fn text(bytes: &[u8], writer: &mut Writer) -> Result<(), Refusal> {

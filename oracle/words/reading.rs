@@ -1,9 +1,9 @@
 //! Reads, asked of the crate.
-use crate::{named, printed, refused};
+use crate::{named, printed, raw, refused};
 use protocol::Read;
 use thaolisem::*;
 
-/// What a read from a place on answers; a refused one must not have moved the reader.
+/// What a read from a place on answers; one that is refused, or finds a body absent, must not have moved the reader.
 pub fn answer(what: &Read, buf: &[u8], place: usize) -> String {
     let mut reader = Reader { index: place, ..Reader::default() };
     let answer = match what {
@@ -15,7 +15,13 @@ pub fn answer(what: &Read, buf: &[u8], place: usize) -> String {
             let found = get_tagged_body_for_tag_within(allowance, &mut reader, buf, *number);
             body(found, &reader, buf)
         }
-        Read::OptionalBody { .. } => todo!(),
+        Read::OptionalBody { number, allowance } => {
+            let allowance = *allowance as usize;
+            match get_optional_tagged_body_within(allowance, &mut reader, buf, *number) {
+                Ok(None) => raw::absent(*number, allowance, buf, place),
+                found => body(found.map(Option::unwrap), &reader, buf),
+            }
+        }
         Read::Walk => match walk(&reader, buf) {
             Ok(count) => format!("ok {count}"),
             Err(refusal) => format!("{} {}", refused(refusal), refusal.tags),
@@ -25,7 +31,7 @@ pub fn answer(what: &Read, buf: &[u8], place: usize) -> String {
             Err(refusal) => refused(refusal),
         },
     };
-    if answer.starts_with("refused") && reader.index != place {
+    if !answer.starts_with("ok") && reader.index != place {
         return format!("{answer} and the reader moved");
     }
     answer

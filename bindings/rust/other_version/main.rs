@@ -38,6 +38,7 @@ fn reads() {
     read(|r| decode_signed(1, r, &[0x07]));
     read(|r| get_tagged_body(r, &[0x3E, 0x3F]).map(|body| body.1));
     read(|r| get_tagged_body_for_tag(r, &[0x3E, 0x3F], 3).map(<[u8]>::len));
+    read(|r| get_optional_tagged_body(r, &[0x3E, 0x3F], 3).map(|body| body.is_some()));
     read(|r| walk(r, &[0x21, 0x07]));
     read(|r| ApplicationDataValue::decode(r, &[0x21, 0x07]).map(|_| ()));
     read(|r| Header::decode(r, &[0x20, 0x04, 0x0F]));

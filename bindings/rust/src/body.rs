@@ -3,6 +3,11 @@ use crate::answer::{accepted, part, Numbers, Refusal};
 use crate::calls;
 use crate::reader::Reader;
 
+/// The place of the number that tells whether a body that may be absent is there, and its two values.
+const PRESENCE: usize = 6;
+const PRESENT: u64 = 1;
+const ABSENT: u64 = 2;
+
 /// A body found.
 #[derive(Debug, Clone, Copy, PartialEq, Eq)]
 pub struct Body<'a> {
@@ -33,6 +38,17 @@ pub fn get_tagged_body_for_tag<'a>(
     Ok(body.view)
 }
 
+/// The body of the number expected if one stands at the reader's place; none, and the reader stays, at the end or where another tag stands.
+#[inline]
+pub fn get_optional_tagged_body<'a>(
+    reader: &mut Reader,
+    buf: &'a [u8],
+    expected_tag_number: u8,
+) -> Result<Option<Body<'a>>, Refusal> {
+    let allowance = reader.view(buf).len();
+    get_optional_tagged_body_within(allowance, reader, buf, expected_tag_number)
+}
+
 /// The body at the reader's place, with so many tags read after its opening at the most.
 #[inline]
 pub fn get_tagged_body_within<'a>(
@@ -55,6 +71,34 @@ pub fn get_tagged_body_for_tag_within<'a>(
     let view = reader.view(buf);
     let told = calls::get_tagged_body_for_tag(expected_tag_number, allowance, view, reader.index);
     found(told, reader, view)
+}
+
+/// The body of the number expected if one stands at the reader's place, with so many tags read after its opening at the most.
+#[inline]
+pub fn get_optional_tagged_body_within<'a>(
+    allowance: usize,
+    reader: &mut Reader,
+    buf: &'a [u8],
+    expected_tag_number: u8,
+) -> Result<Option<Body<'a>>, Refusal> {
+    let view = reader.view(buf);
+    let told = calls::get_optional_tagged_body(expected_tag_number, allowance, view, reader.index);
+    found_or_absent(told, reader, view)
+}
+
+/// The body that the numbers tell, or that it is absent.
+#[inline]
+pub(crate) fn found_or_absent<'a>(
+    told: Numbers,
+    reader: &mut Reader,
+    view: &'a [u8],
+) -> Result<Option<Body<'a>>, Refusal> {
+    accepted(&told)?;
+    match told[PRESENCE] {
+        PRESENT => found(told, reader, view).map(Some),
+        ABSENT => Ok(None),
+        _ => Err(Refusal::UNNAMED),
+    }
 }
 
 /// The body that the numbers tell; the reader goes on behind its closing tag.

@@ -83,6 +83,22 @@ pub fn get_tagged_body_for_tag(
     }
 }
 
+/// The body of the number expected if one stands at a place.
+#[inline]
+pub fn get_optional_tagged_body(
+    expected: u8,
+    allowance: usize,
+    buf: &[u8],
+    place: usize,
+) -> Numbers {
+    let (bytes, len) = (buf.as_ptr(), buf.len());
+    unsafe {
+        answer_of(|answer| {
+            thaolisem_get_optional_tagged_body(expected, allowance, bytes, len, place, answer)
+        })
+    }
+}
+
 /// The strict walk from a place to the end.
 #[inline]
 pub fn walk(buf: &[u8], place: usize) -> Numbers {

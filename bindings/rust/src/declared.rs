@@ -43,6 +43,15 @@ extern "C" {
         answer: *mut Numbers,
     );
 
+    pub fn thaolisem_get_optional_tagged_body(
+        expected: u8,
+        allowance: usize,
+        buf: *const u8,
+        len: usize,
+        place: usize,
+        answer: *mut Numbers,
+    );
+
     pub fn thaolisem_walk(buf: *const u8, len: usize, place: usize, answer: *mut Numbers);
 
     pub fn thaolisem_decode_value(buf: *const u8, len: usize, place: usize, answer: *mut Numbers);

@@ -32,8 +32,8 @@ mod writer;
 pub use answer::{Carried, Refusal};
 pub use block::{encode_closing_tag, encode_context_bool, encode_opening_tag};
 pub use body::{
-    get_tagged_body, get_tagged_body_for_tag, get_tagged_body_for_tag_within,
-    get_tagged_body_within, Body,
+    get_optional_tagged_body, get_optional_tagged_body_within, get_tagged_body,
+    get_tagged_body_for_tag, get_tagged_body_for_tag_within, get_tagged_body_within, Body,
 };
 pub use header::{ComplexAck, ConfirmedRequest, Header, SegmentAck, SimpleAck};
 pub use integers::{

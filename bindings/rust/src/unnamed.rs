@@ -1,6 +1,8 @@
 //! Tests: numbers that no library of this version tells have no name here, and never end a program.
 use crate::answer::{accepted, part, Numbers, Refusal};
+use crate::body::found_or_absent;
 use crate::header::Header;
+use crate::reader::Reader;
 use crate::tag::Tag;
 use crate::value::ApplicationDataValue;
 
@@ -24,6 +26,20 @@ fn refusals() {
     assert_eq!(accepted(&[4, 0, 5, 0, 0, 0, 0, 0]), Err(Refusal::UNNAMED));
     assert_eq!(accepted(&[4, 0, 1, 16, 0, 0, 0, 0]), Err(Refusal::UNNAMED));
     assert_eq!(accepted(&[u64::MAX; 8]), Err(Refusal::UNNAMED));
+}
+
+#[test]
+fn optional_bodies() {
+    for presence in [0, 3].into_iter().chain(LARGE) {
+        let told = [0, 0, 0, 0, 0, 0, presence, 0];
+        let mut reader = Reader::default();
+        assert_eq!(found_or_absent(told, &mut reader, &[]), Err(Refusal::UNNAMED));
+        assert_eq!(reader, Reader::default());
+    }
+    // a view outside the buffer, and a number that is no byte
+    for told in [[0, 0, 1, 0, 0, 0, 1, 0], [0, 0, 0, 0, 256, 0, 1, 0]] {
+        assert_eq!(found_or_absent(told, &mut Reader::default(), &[]), Err(Refusal::UNNAMED));
+    }
 }
 
 /// An accepted answer of a case or kind, with one number as given and the others 0.

@@ -74,13 +74,15 @@ fn answered(answer: BodyRead) -> OptionalBodyRead
             number,
             next,
             tags,
-        } => OptionalBodyRead::Body {
-            start,
-            len,
-            number,
-            next,
-            tags,
-        },
+        } => {
+            OptionalBodyRead::Body {
+                start,
+                len,
+                number,
+                next,
+                tags,
+            }
+        }
         BodyRead::Refused { refusal, tags } => OptionalBodyRead::Refused { refusal, tags },
     }
 }

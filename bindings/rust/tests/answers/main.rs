@@ -5,6 +5,7 @@ mod bodies;
 mod bytes;
 mod headers;
 mod integers;
+mod optional;
 mod refusals;
 mod tags;
 mod utf8;
