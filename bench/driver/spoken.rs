@@ -1,9 +1,10 @@
-// The port's answer in the words of the program replay, for what the original cannot be asked: writes, the walk, and object identifiers read.
+// The port's answer in the words of the program replay, for what the original cannot be asked: writes, the walk, bodies that may be absent, and object identifiers read.
 use crate::answer::Answer;
 use protocol::{put_hex, Read, Request};
 
 pub fn spoken(request: &Request, answer: &Answer) -> String {
-    let [refused, next, walked, a, b, count, ..] = answer.numbers.map(|number| number.unwrap_or(0));
+    let numbers = answer.numbers.map(|number| number.unwrap_or(0));
+    let [refused, next, walked, a, b, count, ..] = numbers;
     match request {
         Request::Write { .. } => {
             let mut words = match refused {
@@ -17,6 +18,21 @@ pub fn spoken(request: &Request, answer: &Answer) -> String {
             0 => format!("ok {walked}"),
             _ => format!("refused {refused} {a} {count}"),
         },
+        Request::Read { what: Read::OptionalBody { .. }, .. } => optional_body(numbers),
         _ => format!("ok ObjectId {a} {b} {next}"),
+    }
+}
+
+// A body, what stands in its place, or a refusal that carries an amount.
+fn optional_body(numbers: [u64; 8]) -> String {
+    match numbers {
+        [0, next, start, len, number, count, 1, 0] => {
+            format!("ok {start} {len} {number} {next} {count}")
+        }
+        [0, _, 0, 0, 0, 0, 2, 0] => "absent end".to_string(),
+        [0, _, class, number, value, 0, 2, 0] => {
+            format!("absent {} {number} {value}", ["A", "C", "O", "X"][class as usize - 1])
+        }
+        [refused, _, _, carried, _, count, ..] => format!("refused {refused} {carried} {count}"),
     }
 }

@@ -17,9 +17,19 @@ pub fn all() -> Vec<Input> {
         ("answer", "bodyfor 3 65535 10 30010c0c0080000519553e44429000003f"),
         ("other-number", "bodyfor 2 65535 10 30010c0c0080000519553e44429000003f"),
     ];
+    // there, another tag in its place, the buffer's end, and cut
+    let optional = [
+        ("answer", "opt 3 65535 10 30010c0c0080000519553e44429000003f"),
+        ("other-tag", "opt 3 65535 8 30010c0c0080000519553e44429000003f"),
+        ("end", "opt 3 65535 17 30010c0c0080000519553e44429000003f"),
+        ("cut", "opt 3 65535 0 3e4442"),
+    ];
     let mut inputs: Vec<Input> = buffers.iter().map(body).collect();
     inputs.extend(
         expected.map(|(name, line)| input("body-for-tag", name, Beside::Same, line.to_string())),
+    );
+    inputs.extend(
+        optional.map(|(name, line)| input("optional-body", name, Beside::Alone, line.to_string())),
     );
     inputs.extend(buffers.iter().map(walk));
     inputs

@@ -27,6 +27,12 @@ pub fn read(what: &Read, bytes: &[u8], place: usize, count: u64) -> [u64; 8] {
                     thaolisem_get_tagged_body_for_tag(number, allowance, buf, len, place, told)
                 })
             }
+            Read::OptionalBody { number, allowance } => {
+                let allowance = allowance as usize;
+                repeat(count, move || {
+                    thaolisem_get_optional_tagged_body(number, allowance, buf, len, place, told)
+                })
+            }
             Read::Walk => repeat(count, move || thaolisem_walk(buf, len, place, told)),
             Read::Value => repeat(count, move || thaolisem_decode_value(buf, len, place, told)),
             Read::Header => repeat(count, move || thaolisem_decode_header(buf, len, place, told)),
