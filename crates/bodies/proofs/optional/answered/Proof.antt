@@ -1,9 +1,6 @@
 -- `bodies::answered` meets its contract: each case is the same on paper.
 -- Assumes nothing.
 use borrow.Author.Needs.{needs}
-use mathlib.Core.Path.{sym, ap}
-use Rattle.bodies.specs.Scan.{paperBody}
-use Rattle.bodies.specs.Optional as paper
 use Rattle.bodies.proofs.optional.answered.Statement.{statement}
 use Rattle.bodies.proofs.optional.answered.Tie as tie
 
