@@ -1,4 +1,4 @@
-// The port's answer in the words of the program replay, for what the original cannot be asked: writes, the walk, bodies that may be absent, and object identifiers read.
+// The port's answer in the words of the program replay, for what the original cannot be asked: writes, the walk, optional bodies, and object identifiers read.
 use crate::answer::Answer;
 use protocol::{put_hex, Read, Request};
 

@@ -77,6 +77,10 @@ static void bodies(void) {
     accepted(2);
     IS(THAOLISEM_TAG_CLASS, 0);
     IS(THAOLISEM_PRESENCE, THAOLISEM_ABSENT);
+    thaolisem_get_optional_tagged_body(6, 9, BYTES(0x6E, 0x22), 0, answer);
+    refused(THAOLISEM_BYTES_RUN_OUT, 2);
+    IS(THAOLISEM_TAGS_READ, 1);
+    IS(THAOLISEM_PRESENCE, 0);
     thaolisem_walk(BYTES(0x10, 0x22, 7, 8, 0x10), 0, answer);
     accepted(0);
     IS(THAOLISEM_WALK_TAGS, 3);

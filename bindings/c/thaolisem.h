@@ -156,7 +156,7 @@ enum {
     THAOLISEM_BODY_TAGS = 5,
 
     /* an optional body: as a body or, where it is absent, as a tag */
-    THAOLISEM_PRESENCE = 6,
+    THAOLISEM_PRESENCE = 6, /* 0 with a refusal */
 
     /* the walk */
     THAOLISEM_WALK_TAGS = 2,
@@ -212,7 +212,7 @@ void thaolisem_get_tagged_body(size_t allowance, const uint8_t *buf, size_t len,
 /* The same, where the opening tag is to have the number expected. Refused 1, 2, 3, 4, 14; 3 also where a body is begun and cut. */
 void thaolisem_get_tagged_body_for_tag(uint8_t expected, size_t allowance, const uint8_t *buf, size_t len, size_t place, uint64_t answer[8]);
 
-/* The same body if one stands at that place: THAOLISEM_PRESENT, or THAOLISEM_ABSENT where the place is the buffer's end or a whole tag other than the opening of that number stands there, and then there is none. Refused 1, 2, 3, 14; no refusal says that there is none. */
+/* The same body if one stands at that place: THAOLISEM_PRESENT, or THAOLISEM_ABSENT where the place is the buffer's end or a whole tag other than the opening of that number stands there. Refused 1, 2, 3, 14; no refusal says that there is none. */
 void thaolisem_get_optional_tagged_body(uint8_t expected, size_t allowance, const uint8_t *buf, size_t len, size_t place, uint64_t answer[8]);
 
 /* The strict walk, from a place to the buffer's end: every block closed by its own tag, all content inside. Refused 1, 2, 3, 15, 16, with the tags accepted before. */

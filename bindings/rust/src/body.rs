@@ -3,7 +3,7 @@ use crate::answer::{accepted, part, Numbers, Refusal};
 use crate::calls;
 use crate::reader::Reader;
 
-/// The place of the number that tells whether a body that may be absent is there, and its two values.
+/// The place of the number that tells whether an optional body is there, and its two values.
 const PRESENCE: usize = 6;
 const PRESENT: u64 = 1;
 const ABSENT: u64 = 2;
@@ -38,7 +38,7 @@ pub fn get_tagged_body_for_tag<'a>(
     Ok(body.view)
 }
 
-/// The body of the number expected if one stands at the reader's place; none, and the reader stays, at the end or where another tag stands.
+/// The body of the number expected if one stands at the reader's place; none, and the reader stays, at the reader's end or where another tag stands.
 #[inline]
 pub fn get_optional_tagged_body<'a>(
     reader: &mut Reader,

@@ -3,16 +3,20 @@
 use Prim.Native.Nat.{ℕ, zero, suc, _+_, _-_, _≤_, _<_}
 use mathlib.Core.Path.{_≡_, refl, ap, _∙_, subst}
 use mathlib.Core.Logic.{_⊎_, inl, inr, ⊎-elim}
+use mathlib.Core.Bool.{Bool, true, false}
 use mathlib.Core.List.{List}
 use native.Mathlib.Omega.{arith}
 use lib.ListN.{length}
+use lib.Dec.{ltb, eqb}
+use Rattle.types.specs.Choice.{if}
 use Rattle.types.specs.Tag.{Number, application, context, opening, closing, Tag, tag}
 use Rattle.types.specs.Refusal.{Carried, amount}
 use Rattle.types.specs.Answer.{Answer, accepted, refused}
-use Rattle.tags.specs.Reading.{tagFrom, expectedFrom}
+use Rattle.tags.specs.Reading.{tagFrom, expectedFrom, sameNumber}
 use Rattle.tags.proofs.Exactly.{moves-on}
+use Rattle.tags.proofs.Refusals.{tag-refused}
 use Rattle.bodies.specs.Scan.{Body, Counted, counted, ScanStep, stops, bodyClosed, onward, scanStepFrom, scanTurn, scanFrom, scanned, bodyBy, bodyOf, bodyFrom, bodyForOf, bodyForFrom}
-use Rattle.bodies.proofs.Refusals.{tag-refused}
+use Rattle.bodies.specs.Optional.{otherTag, Optional, bodyOrRefusal, absent, optionalOf, optionalFrom}
 use Rattle.bodies.proofs.Scanned.{Why, spent, run-out, Says, items-inside}
 use Rattle.bodies.proofs.Ways.{body-ways, body-for-ways}
 use Rattle.bodies.proofs.Counts.{scanned-says}
@@ -60,6 +64,29 @@ smaller-allowance smaller allowance xs place h = of-smaller smaller allowance xs
 pub smaller-allowance-for-tag : (expected smaller allowance : ℕ) (xs : List ℕ) (place : ℕ) → smaller ≤ allowance → SameOrSpent smaller (bodyForFrom expected smaller xs place) (bodyForFrom expected allowance xs place)
 unfolding bodyForFrom
 smaller-allowance-for-tag expected smaller allowance xs place h = for-of-smaller expected smaller allowance xs (expectedFrom (opening expected) xs place) h
+
+-- and so it is of an optional body
+abbrev pub SameOrSpentOptional : ℕ → Optional → Optional → Type 0
+SameOrSpentOptional allowance o whole = (o ≡ whole) ⊎ (o ≡ bodyOrRefusal (counted (refused 14 (amount allowance)) allowance))
+
+module _ (expected smaller allowance : ℕ) (xs : List ℕ) (less : smaller ≤ allowance) where
+  by-test-smaller : (next : ℕ) (o : Optional) (same : Bool)
+      → SameOrSpentOptional smaller (if same (bodyOrRefusal (scanned smaller expected xs next)) o) (if same (bodyOrRefusal (scanned allowance expected xs next)) o)
+  by-test-smaller next o true = ⊎-elim (λ e. inl (ap bodyOrRefusal e)) (λ e. inr (ap bodyOrRefusal e)) (scanned-smaller smaller allowance expected xs next less)
+  by-test-smaller next o false = inl refl
+
+  optional-of-smaller : (a : Answer Tag) → SameOrSpentOptional smaller (optionalOf expected smaller xs a) (optionalOf expected allowance xs a)
+  optional-of-smaller (accepted t next) = by-test-smaller next (absent (otherTag t)) (sameNumber (t .number) (opening expected))
+  optional-of-smaller (refused r c) = inl refl
+
+  otherwise-same : (test : Bool) (o : Optional) {a b : Optional} → SameOrSpentOptional smaller a b → SameOrSpentOptional smaller (if test o a) (if test o b)
+  otherwise-same true o w = inl refl
+  otherwise-same false o w = w
+
+  pub smaller-allowance-optional : (place : ℕ) → SameOrSpentOptional smaller (optionalFrom expected smaller xs place) (optionalFrom expected allowance xs place)
+  unfolding optionalFrom
+  smaller-allowance-optional place =
+      otherwise-same (ltb 65535 (length xs)) _ (otherwise-same (ltb (length xs) place) _ (otherwise-same (eqb place (length xs)) _ (optional-of-smaller (tagFrom xs place))))
 
 -- 14 is answered only where the allowance is spent
 why-spent : (allowance k : ℕ) (xs : List ℕ) (end m : ℕ) {r : ℕ} {c : Carried} → Why allowance k xs end m r c → r ≡ 14 → m ≡ allowance

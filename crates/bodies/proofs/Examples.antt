@@ -8,8 +8,7 @@ use Rattle.types.specs.Answer.{refused}
 use Rattle.numbers.specs.Reading.{byteFrom, sliceFrom, partOf, fixedFrom}
 use Rattle.tags.specs.Reading.{numberFrom, tagValueFrom, tagAfter, tagFrom, expectedFrom}
 use Rattle.bodies.specs.Scan.{Counted, counted, handed, unread, scanStepAfter, scanStepFrom, scanFrom, bodyFrom, bodyForFrom}
-use Rattle.bodies.specs.Optional as optional
-use Rattle.bodies.specs.Optional.{endOfBuffer, otherTag, Optional, absent, optionalFrom}
+use Rattle.bodies.specs.Optional.{endOfBuffer, otherTag, Optional, bodyOrRefusal, absent, optionalFrom}
 
 -- two items and a closing tag; an allowance that is too small; a Boolean, whose value is no length; a closing of another number;
 -- an opening without its closing; content that passes the end, with and without allowance left; no items; an allowance of 0; no opening; no bytes; a place past the end
@@ -39,7 +38,7 @@ pub edges : (asked ≡ answered) × (partOf 2 (0x3E ∷ 0x21 ∷ 0x07 ∷ 0x3F �
 unfolding byteFrom sliceFrom partOf fixedFrom numberFrom tagValueFrom tagAfter tagFrom expectedFrom scanStepAfter scanStepFrom scanFrom bodyFrom bodyForFrom
 edges = (refl, refl)
 
--- of a body that may be absent: it is there; another tag; the buffer's end; a block that is cut; a context tag of its number; a tag that is cut;
+-- of an optional body: it is there; another tag; the buffer's end; a block that is cut; a context tag of its number; a tag that is cut;
 -- a closing of its number; another number's opening; an allowance that is spent, and one that nothing is asked of; a place past the end; content that passes the end
 abbrev pub optionalAsked : List Optional
 optionalAsked =
@@ -51,11 +50,11 @@ optionalAsked =
 
 abbrev pub optionalAnswered : List Optional
 optionalAnswered =
-    optional.answered (handed 1 2 3 4 2) ∷ absent (otherTag (tag (application 2) 1)) ∷ absent endOfBuffer
-    ∷ optional.answered (counted (refused 3 (amount 3)) 1) ∷ absent (otherTag (tag (context 3) 1)) ∷ optional.answered (unread 3 (amount 1))
+    bodyOrRefusal (handed 1 2 3 4 2) ∷ absent (otherTag (tag (application 2) 1)) ∷ absent endOfBuffer
+    ∷ bodyOrRefusal (counted (refused 3 (amount 3)) 1) ∷ absent (otherTag (tag (context 3) 1)) ∷ bodyOrRefusal (unread 3 (amount 1))
     ∷ absent (otherTag (tag (closing 3) 0)) ∷ absent (otherTag (tag (opening 4) 0))
-    ∷ optional.answered (counted (refused 14 (amount 1)) 1) ∷ absent (otherTag (tag (application 2) 1))
-    ∷ optional.answered (unread 2 (amount 1)) ∷ optional.answered (counted (refused 3 (amount 4)) 1) ∷ []
+    ∷ bodyOrRefusal (counted (refused 14 (amount 1)) 1) ∷ absent (otherTag (tag (application 2) 1))
+    ∷ bodyOrRefusal (unread 2 (amount 1)) ∷ bodyOrRefusal (counted (refused 3 (amount 4)) 1) ∷ []
 
 pub optional-edges : optionalAsked ≡ optionalAnswered
 unfolding byteFrom fixedFrom sliceFrom numberFrom tagValueFrom tagAfter tagFrom scanStepAfter scanStepFrom scanFrom optionalFrom

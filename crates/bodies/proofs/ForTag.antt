@@ -15,8 +15,8 @@ use Rattle.types.specs.Refusal.{Carried, tagFound}
 use Rattle.types.specs.Answer.{accepted, refused}
 use Rattle.tags.specs.Reading.{tagFrom, expectedFrom}
 use Rattle.tags.proofs.Range.{in-range}
+use Rattle.tags.proofs.Refusals.{tag-refused}
 use Rattle.bodies.specs.Scan.{Body, body, Counted, handed, unread, scanned, bodyOf, bodyFrom, bodyForFrom}
-use Rattle.bodies.proofs.Refusals.{tag-refused}
 use Rattle.bodies.proofs.Scanned.{Ended, Says}
 use Rattle.bodies.proofs.Items.{part}
 use Rattle.bodies.proofs.Places.{part-tag}

@@ -5,7 +5,6 @@ pub mod Steps
 pub mod Plain
 pub mod Scanned
 pub mod Places
-pub mod Refusals
 pub mod Ways
 pub mod Exactly
 pub mod Counts

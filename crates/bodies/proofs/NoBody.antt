@@ -1,4 +1,4 @@
--- A refusal says that there is no body.
+-- Which refusals say that there is no whole body.
 -- Assumes nothing.
 use Prim.Native.Nat.{ℕ, _+_, _≤_, _<_}
 use mathlib.Core.Path.{_≡_, refl, sym, ap, _∙_}
@@ -12,11 +12,11 @@ use borrow.Author.Tests.{ltb-true, ltb-false}
 use Rattle.types.specs.Refusal.{Carried, amount}
 use Rattle.types.specs.Answer.{Answer, refused}
 use Rattle.tags.specs.Reading.{expectedFrom}
+use Rattle.tags.proofs.Refusals.{too-long}
 use Rattle.bodies.specs.Item.{Item}
 use Rattle.bodies.specs.Body.{BodyAt}
 use Rattle.bodies.specs.Scan.{Body, Counted, bodyFrom, bodyForFrom}
 use Rattle.bodies.specs.Given.{given}
-use Rattle.bodies.proofs.Refusals.{too-long}
 use Rattle.bodies.proofs.Places.{body-placed}
 use Rattle.bodies.proofs.Exactly.{body-given}
 use Rattle.bodies.proofs.Allowance.{smaller-allowance}

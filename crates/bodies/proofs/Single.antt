@@ -7,7 +7,7 @@ use Rattle.types.specs.Answer.{Answer, accepted, refused}
 use Rattle.types.specs.declared.refusal.Refusal.{Refusal}
 use Rattle.types.proofs.Single.{told-apart, programTag, tag-back, programRefusal, refusal-back}
 use Rattle.bodies.specs.Scan.{Body, Counted, paperBody}
-use Rattle.bodies.specs.Optional.{Absence, endOfBuffer, otherTag, Optional, answered, absent, absenceOf, paperOptional}
+use Rattle.bodies.specs.Optional.{Absence, endOfBuffer, otherTag, Optional, bodyOrRefusal, absent, absenceOf, paperOptional}
 use Rattle.bodies.specs.declared.body.BodyRead.{BodyRead}
 use Rattle.bodies.specs.declared.body.BodyRead.the-variants as b
 use Rattle.bodies.specs.declared.optional.Absence as program-absence
@@ -40,7 +40,7 @@ programAnswered (accepted x next) tags = o.Body (x .start) (x .size) (x .number)
 programAnswered (refused k c) tags = o.Refused (programRefusal (row k c)) tags
 
 abbrev programOptional : Optional → OptionalBodyRead
-programOptional (answered x) = programAnswered (x .answer) (x .tags)
+programOptional (bodyOrRefusal x) = programAnswered (x .answer) (x .tags)
 programOptional (absent x) = o.Absent (programAbsence x)
 
 optional-back : (x : OptionalBodyRead) → programOptional (paperOptional x) ≡ x
@@ -48,6 +48,6 @@ optional-back (o.Body start size n next tags) = refl
 optional-back (o.Absent x) = ap o.Absent (absence-back x)
 optional-back (o.Refused r tags) = ap (λ (y : Refusal). o.Refused y tags) (refusal-back r)
 
--- no two answers for a body that may be absent are the same on paper
+-- no two answers for an optional body are the same on paper
 pub single-optional : (x y : OptionalBodyRead) → paperOptional x ≡ paperOptional y → x ≡ y
 single-optional = told-apart paperOptional programOptional optional-back

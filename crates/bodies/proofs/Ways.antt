@@ -1,4 +1,4 @@
--- The ways in which asking for a body goes: an opening is found and the scan answers, another tag is found, or no tag is read; of a body that may be absent, the buffer's end besides.
+-- The ways in which asking for a body goes: an opening is found and the scan answers, another tag is found, or no tag is read; of an optional body, the buffer's end besides.
 -- Assumes nothing.
 use Prim.Native.Nat.{ℕ, _≤_}
 use mathlib.Core.Path.{_≡_, refl, ap, _∙_, subst}
@@ -16,9 +16,9 @@ use Rattle.types.proofs.Choices.{either, read-on}
 use Rattle.types.proofs.Class.{same-exactly}
 use Rattle.tags.specs.Reading.{tagFrom, expectedFrom, sameNumber}
 use Rattle.tags.proofs.Exactly.{tag-found, block-has-no-value}
+use Rattle.tags.proofs.Refusals.{too-long, past-end}
 use Rattle.bodies.specs.Scan.{Counted, unread, scanned, bodyBy, bodyOf, bodyFrom, bodyForOf, bodyForFrom}
-use Rattle.bodies.specs.Optional.{endOfBuffer, otherTag, Optional, answered, absent, optionalOf, optionalFrom}
-use Rattle.bodies.proofs.Refusals.{too-long, past-end}
+use Rattle.bodies.specs.Optional.{endOfBuffer, otherTag, Optional, bodyOrRefusal, absent, optionalOf, optionalFrom}
 
 -- an opening that was read has no value
 valueless : (xs : List ℕ) (place n v next : ℕ) → tagFrom xs place ≡ accepted (tag (opening n) v) next → tagFrom xs place ≡ accepted (tag (opening n) 0) next
@@ -93,12 +93,12 @@ module _ (P : Counted → Type 0) (expected allowance : ℕ) (xs : List ℕ) (pl
 
 -- what holds in each of the four ways holds of what `get_optional_tagged_body` answers
 module _ (P : Optional → Type 0) (expected allowance : ℕ) (xs : List ℕ) (place : ℕ)
-    (opened : (next : ℕ) → tagFrom xs place ≡ accepted (tag (opening expected) 0) next → P (answered (scanned allowance expected xs next)))
+    (opened : (next : ℕ) → tagFrom xs place ≡ accepted (tag (opening expected) 0) next → P (bodyOrRefusal (scanned allowance expected xs next)))
     (other : (t : Tag) (next : ℕ) → tagFrom xs place ≡ accepted t next → (t .number ≡ opening expected → ⊥) → P (absent (otherTag t)))
     (ended : length xs ≤ 65535 → place ≡ length xs → P (absent endOfBuffer))
-    (not-read : (r : ℕ) (c : Carried) → tagFrom xs place ≡ refused r c → P (answered (unread r c))) where
+    (not-read : (r : ℕ) (c : Carried) → tagFrom xs place ≡ refused r c → P (bodyOrRefusal (unread r c))) where
   opening-or-other : (m : Number) (v next : ℕ) → tagFrom xs place ≡ accepted (tag m v) next → (same : Bool) → sameNumber m (opening expected) ≡ same
-      → P (if same (answered (scanned allowance expected xs next)) (absent (otherTag (tag m v))))
+      → P (if same (bodyOrRefusal (scanned allowance expected xs next)) (absent (otherTag (tag m v))))
   opening-or-other m v next e true s = opened next (valueless xs place expected v next (e ∙ ap (λ (k : Number). accepted (tag k v) next) (is-opening expected m s)))
   opening-or-other m v next e false s = other (tag m v) next e (is-another expected m s)
 

@@ -1,7 +1,7 @@
-// A body that may be absent: a block that its sender may leave out.
+// An optional body: a block that its sender may leave out.
 ghost use mathlib.Core.Path.{_≡_};
 ghost use Rattle.bodies.specs.Scan.{paperBody};
-ghost use Rattle.bodies.specs.Optional.{answered, optionalFrom, paperOptional};
+ghost use Rattle.bodies.specs.Optional.{bodyOrRefusal, optionalFrom, paperOptional};
 use crate::body::BodyRead;
 use crate::scan::scan;
 use tags::TagRead;
@@ -10,7 +10,7 @@ use types::Refusal;
 use types::Tag;
 use types::TagNumber;
 
-// Why a body is absent at a place: the buffer ends there, or another tag than the body's opening stands there.
+// Why an optional body is absent at a place: the buffer ends there, or another tag than the body's opening stands there.
 pub enum Absence {
     EndOfBuffer,
     OtherTag(Tag),
@@ -55,7 +55,7 @@ pub fn get_optional_tagged_body(
             tag,
             TagNumber::ContextSpecificOpening(expected),
         ) {
-            Outcome::Passed => answered(scan(expected, allowance, buf, next)),
+            Outcome::Passed => body_or_refusal(scan(expected, allowance, buf, next)),
             // The refusal would carry the same tag: here it is what stands in the body's place.
             Outcome::Refused(_) => OptionalBodyRead::Absent(Absence::OtherTag(tag)),
         },
@@ -64,8 +64,8 @@ pub fn get_optional_tagged_body(
 }
 
 // The answer where the body's opening stands: the same body, or the same refusal.
-fn answered(answer: BodyRead) -> OptionalBodyRead
-    ensures { λ r. ⌜ paperOptional r ≡ answered (paperBody answer) ⌝ }
+fn body_or_refusal(answer: BodyRead) -> OptionalBodyRead
+    ensures { λ r. ⌜ paperOptional r ≡ bodyOrRefusal (paperBody answer) ⌝ }
 {
     match answer {
         BodyRead::Body {

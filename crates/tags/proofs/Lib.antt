@@ -6,6 +6,7 @@ pub mod ByParts
 pub mod Exactly
 pub mod OneTag
 pub mod Range
+pub mod Refusals
 pub mod Back
 pub mod Single
 pub mod Examples

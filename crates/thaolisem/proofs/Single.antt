@@ -39,7 +39,7 @@ use Rattle.tags.proofs.Single.{single-tag-read}
 use Rattle.bodies.specs.Scan.{Body, body, Counted, counted, paperBody}
 use Rattle.bodies.specs.declared.body.BodyRead.{BodyRead}
 use Rattle.bodies.specs.declared.body.BodyRead.the-variants as b
-use Rattle.bodies.specs.Optional.{Absence, endOfBuffer, otherTag, Optional, answered, absent, absenceOf, paperOptional}
+use Rattle.bodies.specs.Optional.{Absence, endOfBuffer, otherTag, Optional, bodyOrRefusal, absent, absenceOf, paperOptional}
 use Rattle.bodies.specs.declared.optional.OptionalBodyRead.{OptionalBodyRead}
 use Rattle.bodies.specs.declared.optional.OptionalBodyRead.the-variants as ob
 use Rattle.bodies.proofs.Single.{single-body, single-optional}
@@ -194,7 +194,7 @@ absence-again place (otherTag t) = by-class (t .number) (t .value)
     by-class (closing k) v = refl
 
 abbrev optionalBack : List ℕ → Optional
-optionalBack l = if (eqb (at l 6) 2) (absent (absenceIn (carried l))) (answered (bodyBack l))
+optionalBack l = if (eqb (at l 6) 2) (absent (absenceIn (carried l))) (bodyOrRefusal (bodyBack l))
 
 absent-again : (place : ℕ) (x : Absence) → optionalBack (absenceTold place x) ≡ absent (absenceIn (carried (absenceTold place x)))
 absent-again place endOfBuffer = refl
@@ -208,9 +208,9 @@ none-seventh n tags (tagFound t) = refl
 optional-again : (place : ℕ) (x : OptionalBodyRead) → optionalBack (toldOptional place (paperOptional x)) ≡ paperOptional x
 optional-again place (ob.Body start size n next tags) = refl
 optional-again place (ob.Absent x) = absent-again place (absenceOf x) ∙ ap absent (absence-again place (absenceOf x))
-optional-again place (ob.Refused x tags) = simp (none-seventh (table x .number) tags (table x .carries)) (ap answered (body-again (b.Refused x tags)))
+optional-again place (ob.Refused x tags) = simp (none-seventh (table x .number) tags (table x .carries)) (ap bodyOrRefusal (body-again (b.Refused x tags)))
 
--- the place is the one that was asked for
+-- no two answers to a call at one place are told by the same numbers
 pub single-told-optional : (place : ℕ) (x y : OptionalBodyRead) → toldOptional place (paperOptional x) ≡ toldOptional place (paperOptional y) → x ≡ y
 single-told-optional place x y e =
     single-optional x y (apart (toldOptional place) optionalBack (paperOptional x) (paperOptional y) (optional-again place x) (optional-again place y) e)

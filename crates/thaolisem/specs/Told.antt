@@ -11,7 +11,7 @@ use Rattle.types.specs.Answer.{Answer, accepted, refused, Outcome, passed, stop
 use Rattle.numbers.specs.Integer.{patternOf}
 use Rattle.tags.specs.Item.{booleanByte}
 use Rattle.bodies.specs.Scan.{Body, Counted}
-use Rattle.bodies.specs.Optional.{Absence, endOfBuffer, otherTag, Optional, answered, absent}
+use Rattle.bodies.specs.Optional.{Absence, endOfBuffer, otherTag, Optional, bodyOrRefusal, absent}
 use Rattle.walk.specs.Walk.{Report}
 use Rattle.values.specs.Value as values
 use Rattle.headers.specs.Header as headers
@@ -48,7 +48,7 @@ bodyTold (refused n c) tags = toldRefusal n c tags
 abbrev pub toldBody : Counted → List ℕ
 toldBody x = bodyTold (x .answer) (x .tags)
 
--- a body that may be absent: where it is there, a body's numbers, and 1
+-- an optional body: where it is there, a body's numbers, and 1
 abbrev pub presentTold : Answer Body → ℕ → List ℕ
 presentTold (accepted b next) tags = eight 0 next (b .start) (b .size) (b .number) tags 1 0
 presentTold (refused n c) tags = toldRefusal n c tags
@@ -59,7 +59,7 @@ absenceTold place endOfBuffer = eight 0 place 0 0 0 0 2 0
 absenceTold place (otherTag t) = eight 0 place (classOf (t .number)) (numberIn (t .number)) (t .value) 0 2 0
 
 abbrev pub toldOptional : (place : ℕ) → Optional → List ℕ
-toldOptional place (answered x) = presentTold (x .answer) (x .tags)
+toldOptional place (bodyOrRefusal x) = presentTold (x .answer) (x .tags)
 toldOptional place (absent a) = absenceTold place a
 
 -- a walk, which has no next place: the count of tags

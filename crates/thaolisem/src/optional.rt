@@ -1,4 +1,4 @@
-// A tagged body that may be absent.
+// An optional tagged body.
 ghost use mathlib.Core.Path.{_≡_};
 ghost use Rattle.bodies.specs.Optional.{optionalFrom, absenceOf, paperOptional};
 ghost use Rattle.thaolisem.specs.Told.{absenceTold, toldOptional};
@@ -6,7 +6,7 @@ use crate::answer::refused;
 use bodies::Absence;
 use bodies::OptionalBodyRead;
 
-// Tells the body of the number expected if one stands at a place, as any body, and 1 that it is there; or the tag found in its place, and 2 that it is absent.
+// Tells the body of the number expected if one stands at a place, as any body, and 1 that it is there; or what stands in its place, and 2 that it is absent.
 #[no_mangle]
 pub extern "C" fn thaolisem_get_optional_tagged_body(
     expected: u8,

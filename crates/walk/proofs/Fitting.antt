@@ -18,8 +18,7 @@ use Rattle.types.specs.declared.refusal.Refusal.the-variants as x
 use Rattle.types.specs.declared.outcome.Outcome as program-outcome
 use Rattle.types.specs.declared.outcome.Outcome.the-variants as o
 use Rattle.types.proofs.Choices.{either, read-on}
-use Rattle.numbers.specs.Reading.{byteFrom}
-use Rattle.tags.specs.Reading.{tagFrom}
+use Rattle.tags.proofs.Refusals.{too-long, past-end, at-the-end}
 use Rattle.walk.specs.Tag.{itemFrom, Standing, standing, standsBy, standsAt, tagAt}
 use Rattle.walk.specs.Walk.{seen, Step, ends, goes, closingStep, atEnd, stepFrom}
 use Rattle.walk.specs.Step.{opened, stepAt, openAfter, openThen, paperStepped}
@@ -46,19 +45,16 @@ unguarded-step xs place ns small inside = simp (le-ltb 65535 (length xs) small, 
 
 -- the tag in a buffer that is too long, past the end, and at the end
 tag-long : (xs : List ℕ) (place blocks : ℕ) → 65535 < length xs → tagAt xs place blocks ≡ refused 1 (amount (length xs))
-unfolding tagAt itemFrom tagFrom byteFrom
-tag-long xs place blocks h = simp (lt-ltb 65535 (length xs) h)
+unfolding tagAt itemFrom
+tag-long xs place blocks h = simp (too-long xs place h)
 
 tag-past : (xs : List ℕ) (place blocks : ℕ) → length xs ≤ 65535 → length xs < place → tagAt xs place blocks ≡ refused 2 (amount place)
-unfolding tagAt itemFrom tagFrom byteFrom
-tag-past xs place blocks small h = simp (le-ltb 65535 (length xs) small, lt-ltb (length xs) place h)
+unfolding tagAt itemFrom
+tag-past xs place blocks small h = simp (past-end xs place small h)
 
 tag-at-end : (xs : List ℕ) (place blocks : ℕ) → length xs ≤ 65535 → place ≡ length xs → tagAt xs place blocks ≡ refused 3 (amount (length xs))
-unfolding tagAt itemFrom tagFrom byteFrom
-tag-at-end xs place blocks small e =
-    let l : place ≤ length xs = omega arith in
-    let m : length xs ≤ place = omega arith in
-    simp (le-ltb 65535 (length xs) small, le-ltb (length xs) place l, le-leb (length xs) place m)
+unfolding tagAt itemFrom
+tag-at-end xs place blocks small e = simp (at-the-end xs place small e)
 
 -- a tag that is accepted stands in a buffer that is not too long
 abbrev Given : Answer Standing → Type 0

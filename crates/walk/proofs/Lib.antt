@@ -7,7 +7,7 @@ pub mod Along
 pub mod Passing
 pub mod Exactly
 pub mod BlockIsBody
-pub mod Telling
+pub mod NotRefused
 pub mod OneReading
 pub mod Counted
 pub mod Steps

@@ -6,5 +6,5 @@ pub mod Fitting
 pub mod Listing
 pub mod Grammar
 pub mod Block
-pub mod Telling
+pub mod NotRefused
 pub mod Nested

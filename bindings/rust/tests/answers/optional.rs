@@ -1,4 +1,4 @@
-//! Bodies that may be absent. What is expected: docs/DECISIONS.md, "A body that may be absent".
+//! Optional bodies. What is expected: docs/DECISIONS.md, "An optional body".
 use crate::{after, at, read, read_at, refused, same_part};
 use thaolisem::*;
 

@@ -38,8 +38,8 @@ enum-told c = search needs
 scan-requires : tie.Need-scan-requires
 scan-requires c κs = search needs
 
-answered-requires : tie.Need-answered-requires
-answered-requires c κs = search needs
+body-or-refusal-requires : tie.Need-body-or-refusal-requires
+body-or-refusal-requires c κs = search needs
 
 enum-told-2 : tie.Need-enum-told-2
 enum-told-2 c = search needs
@@ -51,7 +51,7 @@ returns-3 : tie.Need-returns-3
 returns-3 c =
     let a = c .before .before .before .before .before .before .before .before .before .before .before .before .args in
     let small : length (a .buf .now) ≤ 65535 = omega arith in
-    c .answered .ensures ∙ ap paper.answered (c .before .scan .ensures)
+    c .body-or-refusal .ensures ∙ ap paper.bodyOrRefusal (c .before .scan .ensures)
     ∙ sym (optional-opened (a .expected) (a .allowance) (a .buf .now) (a .place) small (c .before .before .before .before .before .before .before .before .before .if2 .left) _ _
     (sym (c .before .before .before .before .before .before .before .before .decode .ensures) ∙ ap paperTag (c .before .before .before .before .before .before .tag .given .1))
     (sym (c .before .before .before .before .expect-number .ensures) ∙ ap paperOutcome (c .before .before .enum-told .given .1)))
@@ -82,7 +82,7 @@ get-optional-tagged-body-spec =
     expect-number-requires
     enum-told
     scan-requires
-    answered-requires
+    body-or-refusal-requires
     enum-told-2
     enum-known-refusal
     returns-3

@@ -26,9 +26,9 @@ unfolding tagFrom byteFrom
 past-end xs place s l = simp (le-ltb 65535 (length xs) s, lt-ltb (length xs) place l)
 
 -- 3 at the end, carrying it
-pub at-end : (xs : List ℕ) (place : ℕ) → length xs ≤ 65535 → place ≡ length xs → tagFrom xs place ≡ refused 3 (amount (length xs))
+pub at-the-end : (xs : List ℕ) (place : ℕ) → length xs ≤ 65535 → place ≡ length xs → tagFrom xs place ≡ refused 3 (amount (length xs))
 unfolding tagFrom byteFrom
-at-end xs place s e =
+at-the-end xs place s e =
     let l : place ≤ length xs = omega arith in
     let m : length xs ≤ place = omega arith in
     simp (le-ltb 65535 (length xs) s, le-ltb (length xs) place l, le-leb (length xs) place m)
