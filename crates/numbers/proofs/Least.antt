@@ -1,15 +1,14 @@
--- The first number at which a test holds, and how leading zeros tell the least number of bytes. Once, over the length.
+-- The first number at which a test holds, and the least number of bytes. Once, over the length.
 -- Assumes nothing.
 use mathlib.Core.Path.{_≡_, refl, _∙_, ap, sym}
 use mathlib.Core.Logic.{⊎-elim}
 use mathlib.Core.Bool.{Bool, true, false}
-use Prim.Native.Nat.{ℕ, zero, suc, _+_, _-_, _*_, _/_, _%_, _^_, _<_, _≤_}
+use Prim.Native.Nat.{ℕ, zero, suc, _+_, _-_, _*_, _%_, _^_, _<_, _≤_}
 use native.Mathlib.Omega.{arith}
 use native.Mathlib.Decide.{decLt}
-use native.Mathlib.Nat.{add-suc, suc-add, zero-add, eq-or-lt-of-le, pow-le-pow-right, pow-succ'}
-use lib.Count.{leadingZeros, leading-length}
+use native.Mathlib.Nat.{add-suc, suc-add, zero-add, eq-or-lt-of-le, pow-succ'}
 use lib.Dec.{ltb, lit<}
-use lib.Pow.{pow-mono, pow-add, shl-exact}
+use lib.Pow.{pow-add, shl-exact}
 use borrow.Author.Tests.{lt-ltb, ltb-true, ltb-false}
 use Rattle.types.specs.Choice.{if}
 use Rattle.numbers.specs.Integer.{firstFrom, unsignedLength}
@@ -62,45 +61,12 @@ length-least v m l h = go (decLt m (unsignedLength v))
     go (yes a) = absurd (omega (arith, ltb-false v (256 ^ m) (first-least (λ n. ltb v (256 ^ n)) 7 1 m l a)))
     go (no a) = omega arith
 
--- a number of bytes that holds v, where one less does not, is the least
-pub least-is : (v n : ℕ) → 1 ≤ n → v < 256 ^ n → v < 256 ^ 8 → (1 < n → 256 ^ (n - 1) ≤ v) → unsignedLength v ≡ n
-least-is v n l h k more =
-    let low : unsignedLength v ≤ n = length-least v n l h in
-    let b = length-between v in
-    go (decLt (unsignedLength v) n) b
-  where
-    go : Dec (unsignedLength v < n) → (1 ≤ unsignedLength v) × (unsignedLength v ≤ 8) → unsignedLength v ≡ n
-    go (yes a) b =
-        let up : 256 ^ unsignedLength v ≤ 256 ^ (n - 1) = pow-le-pow-right {n = 256} (lit< tt) (omega arith) in
-        let w : 256 ^ (n - 1) ≤ v = more (omega arith) in
-        absurd (omega (arith, length-holds v k))
-    go (no a) b = omega (arith, length-least v n l h)
-
 -- 256 ^ n in powers of two
 pub bytes-as-bits : (n : ℕ) → 256 ^ n ≡ 2 ^ (8 * n)
 bytes-as-bits zero = refl
 bytes-as-bits (suc n) =
     let e : 8 * suc n ≡ 8 + 8 * n = omega arith in
     pow-succ' 256 n ∙ rw (e, pow-add 2 8 (8 * n), bytes-as-bits n)
-
--- leading zeros, eight to a byte, tell it
-pub length-by-zeros : (v : ℕ) → 0 < v → v < 2 ^ 64 → unsignedLength v ≡ 8 - leadingZeros 64 v / 8
-length-by-zeros v p h =
-    let s = leading-length 64 v h in
-    let n : ℕ = 8 - leadingZeros 64 v / 8 in
-    go n (s .0) (omega (arith, s .1)) (omega (arith, s .1)) (s .2) (s .3) (omega (arith, s .1, zeros v p (s .0) (s .2)))
-  where
-    zeros : (v : ℕ) → 0 < v → (m : ℕ) → v < 2 ^ m → 1 ≤ m
-    zeros v p zero l = absurd (omega arith)
-    zeros v p (suc m) l = omega arith
-
-    go : (n m : ℕ) → m ≤ 8 * n → 8 * n < m + 8 → v < 2 ^ m → 2 ^ m ≤ 2 * v + 1 → 1 ≤ n → unsignedLength v ≡ n
-    go n m a b c d l =
-        let w : 2 ^ m ≤ 2 ^ (8 * n) = pow-mono a in
-        least-is v n l (omega (arith, bytes-as-bits n)) h (λ q.
-        let t : 2 ^ (8 * (n - 1) + 1) ≤ 2 ^ m = pow-mono (omega arith) in
-        let u : 2 ^ (8 * (n - 1) + 1) ≡ 2 ^ (8 * (n - 1)) * 2 = pow-add 2 (8 * (n - 1)) 1 in
-        omega (arith, bytes-as-bits (n - 1)))
 
 -- a bit moved up to the top of n bytes is half of 256 ^ n
 pub half-of-bytes : (n : ℕ) → 0 < n → n < 9 → ((1 * 2 ^ (8 * n - 1)) % 2 ^ 64) * 2 ≡ 256 ^ n

@@ -1,6 +1,6 @@
 // Integers by the length of their content: read, and how long their content is at the least.
 ghost use mathlib.Core.Path.{_≡_};
-ghost use Prim.Native.Nat.{_*_, _^_, _<_, _≤_};
+ghost use Prim.Native.Nat.{_^_, _<_};
 ghost use lib.Signed.{mag};
 ghost use Rattle.numbers.specs.Integer.{twosComplement, unsignedLength, signedLength};
 ghost use Rattle.numbers.specs.Reading.{contentFrom, unsignedFrom, signedFrom, paperSlice, paperUnsigned, paperSigned};
@@ -77,23 +77,62 @@ fn signed(unsigned: u64, count: u32) -> i64
     }
 }
 
-// The least number of bytes that holds an unsigned integer.
+// The least number of bytes that holds an unsigned integer, by the upper end of what each length holds (ASHRAE 135, 20.2.4).
 pub fn unsigned_length(value: u64) -> usize
     ensures { λ r. ⌜ r ≡ unsignedLength value ⌝ }
     ensures { λ r. ⌜ (0 < r) × (r < 9) ⌝ }
 {
-    if value == 0 {
+    if value <= 255 {
         return 1;
     }
-    8 - (u64::leading_zeros(value) / 8) as usize
+    if value <= 65535 {
+        return 2;
+    }
+    if value <= 16777215 {
+        return 3;
+    }
+    if value <= 4294967295 {
+        return 4;
+    }
+    if value <= 1099511627775 {
+        return 5;
+    }
+    if value <= 281474976710655 {
+        return 6;
+    }
+    if value <= 72057594037927935 {
+        return 7;
+    }
+    8
 }
 
-// The least number of bytes that holds a signed integer in two's complement.
+// The least number of bytes that holds a signed integer in two's complement, by both ends of what each length holds (ASHRAE 135, 20.2.5).
 pub fn signed_length(value: i64) -> usize
     ensures { λ r. ⌜ r ≡ signedLength value ⌝ }
     ensures { λ r. ⌜ (0 < r) × (r < 9) ⌝ }
 {
-    unsigned_length(magnitude(value) * 2)
+    if -128 <= value && value <= 127 {
+        return 1;
+    }
+    if -32768 <= value && value <= 32767 {
+        return 2;
+    }
+    if -8388608 <= value && value <= 8388607 {
+        return 3;
+    }
+    if -2147483648 <= value && value <= 2147483647 {
+        return 4;
+    }
+    if -549755813888 <= value && value <= 549755813887 {
+        return 5;
+    }
+    if -140737488355328 <= value && value <= 140737488355327 {
+        return 6;
+    }
+    if -36028797018963968 <= value && value <= 36028797018963967 {
+        return 7;
+    }
+    8
 }
 
 // A signed integer without its sign: itself, or one less than its magnitude where it is negative.

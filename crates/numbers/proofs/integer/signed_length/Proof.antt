@@ -1,31 +1,56 @@
--- `numbers::signed_length` meets its contract: it is the least length of twice the magnitude, unsigned.
+-- `numbers::signed_length` meets its contract: at each return the tests that led there say between which ends the value lies.
 -- Assumes nothing.
-use borrow.Author.Needs.{needs}
+use native.Mathlib.Omega.{arith}
 use mathlib.Core.Path.{_≡_, sym, ap, _∙_}
-use Prim.Native.Nat.{ℕ, _*_}
-use Rattle.numbers.specs.Integer.{unsignedLength}
-use Rattle.numbers.proofs.Shortest.{signed-as-unsigned}
+use mathlib.Core.Logic.{⊎-map}
+use Prim.Native.Nat.{ℕ, suc, _-_, _/_, _^_, _<_}
 use mir.Syntax.{w64}
 use mir.Val.{toZ, ofZ}
 use mir.ValLaws.{toZ-ofZ}
-use lib.Signed.{mag}
+use lib.IntN.{ℤ}
+use Rattle.numbers.specs.Integer.{signedLength}
+use Rattle.numbers.proofs.Ends.{Within, Beyond, within, signed-by-ends}
 use Rattle.numbers.proofs.integer.signed_length.Statement.{statement}
 use Rattle.numbers.proofs.integer.signed_length.Tie as tie
 
-magnitude-requires : tie.Need-magnitude-requires
-magnitude-requires c κs = search needs
+-- the value, as the machine reads it from its bits
+abbrev seen : tie.Start → ℤ
+seen c = toZ w64 (ofZ w64 (c .args .value))
 
-mul-unsigned-length : tie.Need-mul-unsigned-length
-mul-unsigned-length c = search needs
+known : (c : tie.Start) → seen c ≡ c .args .value
+known c = toZ-ofZ w64 (c .args .value) (c .fits .value)
 
-unsigned-length-requires : tie.Need-unsigned-length-requires
-unsigned-length-requires c κs = search needs
+-- eight bytes hold it
+held : (c : tie.Start) → Within (256 ^ 8 / 2 - 1) (seen c)
+held c = within (256 ^ 8 / 2 - 1) (seen c) (rw (known c) (omega (arith, c .fits .value .sfits)))
+
+-- one byte more than n, by the ends of both
+answer : (c : tie.Start) (n : ℕ) → n < 8 → (0 < n → Beyond (256 ^ n / 2 - 1) (seen c)) → Within (256 ^ suc n / 2 - 1) (seen c) → (suc n ≡ signedLength (c .args .value)) × ((0 < suc n) × (suc n < 9))
+answer c n h beyond between = (sym (signed-by-ends n (seen c) h beyond between) ∙ ap signedLength (known c), omega arith)
 
 returns : tie.Need-returns
-returns c =
-    let z = c .before .before .args .value in
-    let e : toZ w64 (ofZ w64 z) ≡ z = toZ-ofZ w64 z (c .before .before .fits .value) in
-    (c .unsigned-length .ensures .0 ∙ ap (λ (k : ℕ). unsignedLength (k * 2)) (c .before .magnitude .ensures .0 ∙ ap mag e) ∙ sym (signed-as-unsigned z), c .unsigned-length .ensures .1)
+returns c = answer (c .before .before) 0 (omega arith) (λ p. absurd (omega arith)) (c .before .if1 .taken, c .if2 .taken)
+
+returns-2 : tie.Need-returns-2
+returns-2 c = answer (c .before .before .before) 1 (omega arith) (λ p. ⊎-map (λ w. w .1 .left) (λ w. w .left) (c .before .before .if1 .came)) (c .before .if3 .taken, c .if4 .taken)
+
+returns-3 : tie.Need-returns-3
+returns-3 c = answer (c .before .before .before .before) 2 (omega arith) (λ p. ⊎-map (λ w. w .1 .left) (λ w. w .left) (c .before .before .if3 .came)) (c .before .if5 .taken, c .if6 .taken)
+
+returns-4 : tie.Need-returns-4
+returns-4 c = answer (c .before .before .before .before .before) 3 (omega arith) (λ p. ⊎-map (λ w. w .1 .left) (λ w. w .left) (c .before .before .if5 .came)) (c .before .if7 .taken, c .if8 .taken)
+
+returns-5 : tie.Need-returns-5
+returns-5 c = answer (c .before .before .before .before .before .before) 4 (omega arith) (λ p. ⊎-map (λ w. w .1 .left) (λ w. w .left) (c .before .before .if7 .came)) (c .before .if9 .taken, c .if10 .taken)
+
+returns-6 : tie.Need-returns-6
+returns-6 c = answer (c .before .before .before .before .before .before .before) 5 (omega arith) (λ p. ⊎-map (λ w. w .1 .left) (λ w. w .left) (c .before .before .if9 .came)) (c .before .if11 .taken, c .if12 .taken)
+
+returns-7 : tie.Need-returns-7
+returns-7 c = answer (c .before .before .before .before .before .before .before .before) 6 (omega arith) (λ p. ⊎-map (λ w. w .1 .left) (λ w. w .left) (c .before .before .if11 .came)) (c .before .if13 .taken, c .if14 .taken)
+
+returns-8 : tie.Need-returns-8
+returns-8 c = answer (c .before .before .before .before .before .before .before) 7 (omega arith) (λ p. ⊎-map (λ w. w .1 .left) (λ w. w .left) (c .if13 .came)) (held (c .before .before .before .before .before .before .before))
 
 pub signed-length-spec : {M : Type 1} → statement M
-signed-length-spec = tie.close (tie.spec magnitude-requires mul-unsigned-length unsigned-length-requires returns)
+signed-length-spec = tie.close (tie.spec returns returns-2 returns-3 returns-4 returns-5 returns-6 returns-7 returns-8)
