@@ -1,4 +1,4 @@
--- `numbers::unsigned_length` meets its contract: at each return the tests that led there say between which two ends the value lies.
+-- `numbers::unsigned_length` meets its contract: at each return the tests that led there say between which ends the value lies.
 -- Assumes nothing.
 use native.Mathlib.Omega.{arith}
 use mathlib.Core.Path.{_≡_, sym}
@@ -10,31 +10,31 @@ use Rattle.numbers.proofs.integer.unsigned_length.Tie as tie
 
 -- one byte more than n, by the ends of both
 answer : (n v : ℕ) → n < 8 → (0 < n → 256 ^ n - 1 < v) → v ≤ 256 ^ suc n - 1 → (suc n ≡ unsignedLength v) × ((0 < suc n) × (suc n < 9))
-answer n v h past upTo = (sym (length-by-ends n v h past upTo), omega arith)
+answer n v few past held = (sym (length-by-ends n v few past held), omega arith)
 
 returns : tie.Need-returns
-returns c = answer 0 _ (omega arith) (λ p. omega arith) (c .if1 .taken)
+returns c = answer 0 (c .before .args .value) (omega arith) (λ p. omega arith) (omega arith)
 
 returns-2 : tie.Need-returns-2
-returns-2 c = answer 1 _ (omega arith) (λ p. c .before .if1 .left) (c .if2 .taken)
+returns-2 c = answer 1 (c .before .before .args .value) (omega arith) (λ p. omega arith) (omega arith)
 
 returns-3 : tie.Need-returns-3
-returns-3 c = answer 2 _ (omega arith) (λ p. c .before .if2 .left) (c .if3 .taken)
+returns-3 c = answer 2 (c .before .before .before .args .value) (omega arith) (λ p. omega arith) (omega arith)
 
 returns-4 : tie.Need-returns-4
-returns-4 c = answer 3 _ (omega arith) (λ p. c .before .if3 .left) (c .if4 .taken)
+returns-4 c = answer 3 (c .before .before .before .before .args .value) (omega arith) (λ p. omega arith) (omega arith)
 
 returns-5 : tie.Need-returns-5
-returns-5 c = answer 4 _ (omega arith) (λ p. c .before .if4 .left) (c .if5 .taken)
+returns-5 c = answer 4 (c .before .before .before .before .before .args .value) (omega arith) (λ p. omega arith) (omega arith)
 
 returns-6 : tie.Need-returns-6
-returns-6 c = answer 5 _ (omega arith) (λ p. c .before .if5 .left) (c .if6 .taken)
+returns-6 c = answer 5 (c .before .before .before .before .before .before .args .value) (omega arith) (λ p. omega arith) (omega arith)
 
 returns-7 : tie.Need-returns-7
-returns-7 c = answer 6 _ (omega arith) (λ p. c .before .if6 .left) (c .if7 .taken)
+returns-7 c = answer 6 (c .before .before .before .before .before .before .before .args .value) (omega arith) (λ p. omega arith) (omega arith)
 
 returns-8 : tie.Need-returns-8
-returns-8 c = answer 7 _ (omega arith) (λ p. c .if7 .left) (omega (arith, c .before .before .before .before .before .before .before .fits .value .fits))
+returns-8 c = answer 7 (c .before .before .before .before .before .before .before .args .value) (omega arith) (λ p. omega arith) (omega (arith, c .before .before .before .before .before .before .before .fits .value .fits))
 
 pub unsigned-length-spec : {M : Type 1} → statement M
 unsigned-length-spec = tie.close (tie.spec returns returns-2 returns-3 returns-4 returns-5 returns-6 returns-7 returns-8)
