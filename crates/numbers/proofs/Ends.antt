@@ -1,4 +1,4 @@
--- The ends of what n bytes hold: 256 ^ n - 1 unsigned, 256 ^ n / 2 - 1 and -(256 ^ n / 2) signed. Between those of two lengths the longer is the least. Once, over the length.
+-- The ends of what n bytes hold: 256 ^ n - 1 unsigned, 256 ^ n / 2 - 1 and -(256 ^ n / 2) signed. What lies past those of n bytes and within those of one byte more takes one more. Once, over the length.
 -- Assumes nothing.
 use mathlib.Core.Path.{_≡_, refl, _∙_}
 use mathlib.Core.Bool.{true, false}
