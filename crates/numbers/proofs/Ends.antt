@@ -14,7 +14,7 @@ use Rattle.numbers.specs.Integer.{unsignedLength, signedLength}
 use Rattle.numbers.proofs.Least.{length-between, length-holds, length-least}
 use Rattle.numbers.proofs.Shortest.{signed-as-unsigned}
 
--- past the end of n bytes, where n is not 0, and not past that of one byte more: so many are the least that hold it
+-- for n below 8: past the end of n bytes, where n is not 0, and not past that of n + 1, the least number of bytes is n + 1
 pub length-by-ends : (n v : ℕ) → n < 8 → (0 < n → 256 ^ n - 1 < v) → v ≤ 256 ^ suc n - 1 → unsignedLength v ≡ suc n
 length-by-ends n v few past held =
     let some : 1 ≤ 256 ^ suc n = one-le-pow (suc n) 256 (lit< tt) in
@@ -48,13 +48,14 @@ beyond-mag e (pos k) (inr l) = absurd (omega (arith, leb-false 0 0 l))
 beyond-mag e (negsuc k) (inl u) = absurd (omega (arith, leb-false 0 0 u))
 beyond-mag e (negsuc k) (inr l) = leb-false k e l
 
--- the same of a signed integer: beyond an end of n bytes, where n is not 0, and within those of one byte more
+-- the same of a signed integer: beyond an end of n bytes, where n is not 0, and within those of n + 1
 pub signed-by-ends : (n : ℕ) (z : ℤ) → n < 8 → (0 < n → Beyond (256 ^ n / 2 - 1) z) → Within (256 ^ suc n / 2 - 1) z → signedLength z ≡ suc n
 signed-by-ends n z few past held =
     signed-as-unsigned z
     ∙ length-by-ends n (mag z * 2) few (λ p. doubled n p (beyond-mag (256 ^ n / 2 - 1) z (past p)))
     (omega (arith, within-mag (256 ^ suc n / 2 - 1) z held, pow-succ' 256 n, one-le-pow n 256 (lit< tt)))
   where
-    doubled : (n : ℕ) → 0 < n → 256 ^ n / 2 - 1 < mag z → 256 ^ n - 1 < mag z * 2
+    -- 256 ^ m is even, where m is not 0
+    doubled : (m : ℕ) → 0 < m → 256 ^ m / 2 - 1 < mag z → 256 ^ m - 1 < mag z * 2
     doubled zero p h = absurd (omega arith)
-    doubled (suc n) p h = omega (arith, pow-succ' 256 n)
+    doubled (suc m) p h = omega (arith, pow-succ' 256 m)

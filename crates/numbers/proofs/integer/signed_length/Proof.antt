@@ -13,7 +13,7 @@ use Rattle.numbers.proofs.Ends.{Within, Beyond, within, signed-by-ends}
 use Rattle.numbers.proofs.integer.signed_length.Statement.{statement}
 use Rattle.numbers.proofs.integer.signed_length.Tie as tie
 
--- the value, as the machine reads it from its bits
+-- what the machine reads from the value's bits, which is the value itself
 abbrev seen : tie.Start → ℤ
 seen c = toZ w64 (ofZ w64 (c .args .value))
 
@@ -24,7 +24,7 @@ known c = toZ-ofZ w64 (c .args .value) (c .fits .value)
 eight-hold : (c : tie.Start) → Within (256 ^ 8 / 2 - 1) (seen c)
 eight-hold c = within (256 ^ 8 / 2 - 1) (seen c) (rw (known c) (omega (arith, c .fits .value .sfits)))
 
--- one byte more than n, by the ends of both
+-- n + 1 is the answer where the value is beyond an end of n bytes and within those of n + 1
 answer : (c : tie.Start) (n : ℕ) → n < 8 → (0 < n → Beyond (256 ^ n / 2 - 1) (seen c)) → Within (256 ^ suc n / 2 - 1) (seen c) → (suc n ≡ signedLength (c .args .value)) × ((0 < suc n) × (suc n < 9))
 answer c n few past held = (sym (signed-by-ends n (seen c) few past held) ∙ ap signedLength (known c), omega arith)
 
@@ -50,7 +50,7 @@ returns-7 : tie.Need-returns-7
 returns-7 c = answer (c .before .before .before .before .before .before .before .before) 6 (omega arith) (λ p. ⊎-map (λ w. w .1 .left) (λ w. w .left) (c .before .before .if11 .came)) (c .before .if13 .taken, c .if14 .taken)
 
 returns-8 : tie.Need-returns-8
-returns-8 c = answer (c .before .before .before .before .before .before .before) 7 (omega arith) (λ p. ⊎-map (λ w. w .1 .left) (λ w. w .left) (c .if13 .came)) (eight-hold (c .before .before .before .before .before .before .before))
+returns-8 c = let s = c .before .before .before .before .before .before .before in answer s 7 (omega arith) (λ p. ⊎-map (λ w. w .1 .left) (λ w. w .left) (c .if13 .came)) (eight-hold s)
 
 pub signed-length-spec : {M : Type 1} → statement M
 signed-length-spec = tie.close (tie.spec returns returns-2 returns-3 returns-4 returns-5 returns-6 returns-7 returns-8)
