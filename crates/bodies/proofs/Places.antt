@@ -92,7 +92,7 @@ drop-cut xs from to h =
     ∙ ap (λ (r : List ℕ). part xs from to ++ r) (drop-drop (to - from) from xs ∙ ap (λ (j : ℕ). drop j xs) (let z : from + (to - from) ≡ to = omega arith in z))
 
 -- the bytes from a tag's place to the place after it are that tag
-pub part-tag : (xs : List ℕ) (place : ℕ) (t : Tag) (next : ℕ) → tagFrom xs place ≡ accepted t next → IsTag t (part xs place next)
+part-tag : (xs : List ℕ) (place : ℕ) (t : Tag) (next : ℕ) → tagFrom xs place ≡ accepted t next → IsTag t (part xs place next)
 part-tag xs place t next e =
     let f = tag-found xs place t next e in
     subst (IsTag t) (sym (part-is xs place (f .bytes) (drop next xs) (f .here) next (f .ends))) (f .is-tag)

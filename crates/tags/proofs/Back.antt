@@ -18,8 +18,8 @@ use Rattle.numbers.proofs.Shortest.{unsigned-shortest, signed-shortest}
 use Rattle.numbers.proofs.Found.{behind, unsigned-at, signed-at}
 use Rattle.numbers.proofs.Wrote.{wrote, written-here, over-length}
 use Rattle.tags.specs.Reading.{tagFrom}
-use Rattle.tags.specs.Header.{classBit, numberField, lowBits, TellsValue, inline, one, two, four, IsTag, ofApplication, ofLongContext, ofContext, ofOpening, ofClosing}
-use Rattle.tags.specs.Writing.{lowBitsFor, tagValueBytes, numberBytes, tagBytes, writableTag, tagTo}
+use Rattle.tags.specs.Header.{classBit, numberField, lowBits, TellsValue, inline, one, two, four, TellsNumber, inField, inSecond, IsTag, ofApplication, ofContext, ofOpening, ofClosing}
+use Rattle.tags.specs.Writing.{lowBitsFor, tagValueBytes, contextBytes, numberBytes, tagBytes, writableTag, tagTo}
 use Rattle.tags.specs.Item.{itemBytes, itemTo, itemLentTo}
 use Rattle.tags.proofs.BySize.{split, to-four, from-five, low-lt, few, alone, in-two, in-four}
 use Rattle.tags.proofs.Exactly.{tag-read}
@@ -45,6 +45,23 @@ context-bits n low h = (omega arith, omega arith, omega arith)
 long-bits : (low : ℕ) → low < 8 → (classBit (248 + low) ≡ 1) × (15 ≤ numberField (248 + low)) × (lowBits (248 + low) ≡ low)
 long-bits low h = (omega arith, omega arith, omega arith)
 
+-- the bytes that are written for a context number, in the field or behind it, tell it, with the low bits
+record NumberWritten (n low : ℕ) (bytes : List ℕ) : Type 0 where
+  first : ℕ
+  number : List ℕ
+  are : bytes ≡ first ∷ number
+  class : classBit first ≡ 1
+  tells : TellsNumber (numberField first) n number
+  low-is : lowBits first ≡ low
+
+number-written : (n low : ℕ) → low < 8 → NumberWritten n low (contextBytes n low)
+number-written n low h =
+    split n 15
+    (λ k.
+    let b = context-bits n low h in
+    record { first = n * 16 + 8 + low; number = []; are = simp (lt-ltb n 15 k); class = b .0; tells = subst (λ (f : ℕ). TellsNumber f n []) (sym (b .1)) (inField k); low-is = b .2 })
+    (λ k. let b = long-bits low h in record { first = 248 + low; number = n ∷ []; are = simp (le-ltb n 15 k); class = b .0; tells = inSecond (b .1); low-is = b .2 })
+
 -- the bytes that are written for a tag are that tag
 module _ (n v : ℕ) where
   application-is : v < 2 ^ 32 → IsTag (tag (application n) v) (numberBytes (application n) v)
@@ -53,38 +70,26 @@ module _ (n v : ℕ) where
       subst (λ (x : ℕ). IsTag (tag (application x) v) (numberBytes (application n) v)) (b .1)
       (ofApplication (b .0) (subst (λ (x : ℕ). TellsValue x v (tagValueBytes v)) (sym (b .2)) (value-told v k)))
 
-  context-field : n < 15 → v < 2 ^ 32 → IsTag (tag (context n) v) ((n * 16 + 8 + lowBitsFor v) ∷ tagValueBytes v)
-  context-field h k =
-      let b = context-bits n (lowBitsFor v) (omega (arith, low-lt v)) in
-      subst (λ (x : ℕ). IsTag (tag (context x) v) ((n * 16 + 8 + lowBitsFor v) ∷ tagValueBytes v)) (b .1)
-      (ofContext (b .0) (subst (λ (x : ℕ). x < 15) (sym (b .1)) h) (subst (λ (x : ℕ). x < 6) (sym (b .2)) (low-lt v)) (subst (λ (x : ℕ). TellsValue x v (tagValueBytes v)) (sym (b .2)) (value-told v k)))
-
-  context-second : v < 2 ^ 32 → IsTag (tag (context n) v) ((248 + lowBitsFor v) ∷ n ∷ tagValueBytes v)
-  context-second k =
-      let b = long-bits (lowBitsFor v) (omega (arith, low-lt v)) in
-      ofLongContext (b .0) (b .1) (subst (λ (x : ℕ). TellsValue x v (tagValueBytes v)) (sym (b .2)) (value-told v k))
-
   context-is : v < 2 ^ 32 → IsTag (tag (context n) v) (numberBytes (context n) v)
-  context-is k = split n 15 (λ h. simp (lt-ltb n 15 h) (context-field h k)) (λ h. simp (le-ltb n 15 h) (context-second k))
+  context-is k =
+      let w = number-written n (lowBitsFor v) (omega (arith, low-lt v)) in
+      subst (λ (bs : List ℕ). IsTag (tag (context n) v) (bs ++ tagValueBytes v)) (sym (w .are))
+      (ofContext (w .class) (w .tells) (omega (arith, w .low-is, low-lt v)) (subst (λ (x : ℕ). TellsValue x v (tagValueBytes v)) (sym (w .low-is)) (value-told v k)))
 
-opening-is : (n : ℕ) → n < 15 → IsTag (tag (opening n) 0) (numberBytes (opening n) 0)
-opening-is n h =
-    let b = context-bits n 6 (omega arith) in
-    simp (lt-ltb n 15 h) (subst (λ (x : ℕ). IsTag (tag (opening x) 0) ((n * 16 + 8 + 6) ∷ [])) (b .1) (ofOpening (b .0) (subst (λ (x : ℕ). x < 15) (sym (b .1)) h) (b .2)))
+opening-is : (n : ℕ) → IsTag (tag (opening n) 0) (numberBytes (opening n) 0)
+opening-is n = let w = number-written n 6 (omega arith) in subst (IsTag (tag (opening n) 0)) (sym (w .are)) (ofOpening (w .class) (w .tells) (w .low-is))
 
-closing-is : (n : ℕ) → n < 15 → IsTag (tag (closing n) 0) (numberBytes (closing n) 0)
-closing-is n h =
-    let b = context-bits n 7 (omega arith) in
-    simp (lt-ltb n 15 h) (subst (λ (x : ℕ). IsTag (tag (closing x) 0) ((n * 16 + 8 + 7) ∷ [])) (b .1) (ofClosing (b .0) (subst (λ (x : ℕ). x < 15) (sym (b .1)) h) (b .2)))
+closing-is : (n : ℕ) → IsTag (tag (closing n) 0) (numberBytes (closing n) 0)
+closing-is n = let w = number-written n 7 (omega arith) in subst (IsTag (tag (closing n) 0)) (sym (w .are)) (ofClosing (w .class) (w .tells) (w .low-is))
 
 pub header-is-tag : (n : Number) (v : ℕ) → InRange n v → IsTag (tag n v) (tagBytes (tag n v))
 unfolding tagBytes
 header-is-tag (application n) v r = application-is n v (r .1)
 header-is-tag (context n) v r = context-is n v (r .1)
-header-is-tag (opening n) v r = subst (λ (x : ℕ). IsTag (tag (opening n) x) (numberBytes (opening n) x)) (sym (r .1)) (opening-is n (r .0))
-header-is-tag (closing n) v r = subst (λ (x : ℕ). IsTag (tag (closing n) x) (numberBytes (closing n) x)) (sym (r .1)) (closing-is n (r .0))
+header-is-tag (opening n) v r = subst (λ (x : ℕ). IsTag (tag (opening n) x) (numberBytes (opening n) x)) (sym (r .1)) (opening-is n)
+header-is-tag (closing n) v r = subst (λ (x : ℕ). IsTag (tag (closing n) x) (numberBytes (closing n) x)) (sym (r .1)) (closing-is n)
 
--- whatever `encode` writes, `decode` reads as the same tag, with the place after it; openings and closings of 15 and more are no tags that bytes carry (01 keeps them as the Rust reads them)
+-- whatever `encode` writes, `decode` reads as the same tag, with the place after it
 pub round-trip : (n : Number) (v : ℕ) → InRange n v → (xs : List ℕ) (place next : ℕ) (ys : List ℕ) → tagTo (tag n v) xs place ≡ left (accepted tt next) ys → tagFrom ys place ≡ accepted (tag n v) next
 unfolding tagTo
 round-trip n v r xs place next ys e =

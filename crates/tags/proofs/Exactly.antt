@@ -1,12 +1,12 @@
 -- A tag is read exactly where its bytes stand: the executable and the declarative definition agree, for every byte list.
 -- Assumes nothing.
-use mathlib.Core.Path.{_≡_, refl, _∙_, ap, sym, subst}
+use mathlib.Core.Path.{_≡_, refl, _∙_, ap, sym, subst, subst₂}
 use Prim.Native.Nat.{ℕ, suc, _+_, _-_, _<_, _≤_}
 use native.Mathlib.Nat.{add-zero}
 use native.Mathlib.Omega.{arith}
-use mathlib.Core.List.{List, [], _∷_, _++_}
+use mathlib.Core.List.{List, [], _∷_, _++_, append-assoc, append-nil}
 use lib.Dec.{ltb, eqb}
-use lib.ListN.{length, drop, length-drop}
+use lib.ListN.{length, drop, length-append, length-drop}
 use lib.Seq.{drop-at}
 use borrow.Author.Tests.{lt-ltb, le-ltb, ltb-true, ltb-false, eq-eqb, ne-eqb, eqb-true, eqb-false}
 use Rattle.types.specs.Tag.{Number, application, context, opening, closing, Tag, tag}
@@ -16,30 +16,42 @@ use Rattle.types.proofs.Choices.{either, read-on}
 use Rattle.numbers.specs.Integer.{unsignedValue}
 use Rattle.numbers.specs.Reading.{byteFrom, fixedFrom}
 use Rattle.numbers.proofs.Found.{ByteFound, byte-found, byte-at, fixed-found, fixed-at, behind}
-use Rattle.tags.specs.Reading.{numberFrom, tagValueFrom, tagAfter, tagFrom}
-use Rattle.tags.specs.Header.{classBit, numberField, lowBits, TellsValue, inline, one, two, four, none, IsTag, ofApplication, ofLongContext, ofContext, ofOpening, ofClosing}
+use Rattle.tags.specs.Reading.{contextNumber, numberFrom, tagValueFrom, tagAfter, tagFrom}
+use Rattle.tags.specs.Header.{classBit, numberField, lowBits, TellsValue, inline, one, two, four, none, TellsNumber, inField, inSecond, IsTag, ofApplication, ofContext, ofOpening, ofClosing}
 use Rattle.tags.specs.Writing.{Valueless}
 
--- a value that was read: the bytes that stand there tell it
-record ValueFound (low : ℕ) (xs : List ℕ) (place v next : ℕ) : Type 0 where
+-- bytes of a tag that were read from a place on: they tell what they should, and end inside the buffer
+record Told (tells : List ℕ → Type 0) (xs : List ℕ) (place next : ℕ) : Type 0 where
   bytes : List ℕ
-  tells : TellsValue low v bytes
+  told : tells bytes
   here : drop place xs ≡ bytes ++ drop next xs
   ends : next ≡ place + length bytes
   inside : next ≤ length xs
+
+-- no bytes at all
+told-by-none : {tells : List ℕ → Type 0} (xs : List ℕ) (place : ℕ) → tells [] → place ≤ length xs → Told tells xs place place
+told-by-none xs place t l = record { bytes = []; told = t; here = refl; ends = omega arith; inside = l }
+
+-- one byte
+told-by-one : {tells : List ℕ → Type 0} {xs : List ℕ} {place b next : ℕ} → ByteFound xs place b next → tells (b ∷ []) → Told tells xs place next
+told-by-one {b = b} f t = record { bytes = b ∷ []; told = t; here = f .here; ends = f .ends; inside = omega (arith, f .ends, f .inside) }
+
+-- a value that was read
+abbrev ValueFound : ℕ → List ℕ → (place v next : ℕ) → Type 0
+ValueFound low xs place v next = Told (TellsValue low v) xs place next
 
 abbrev ValueOr : ℕ → List ℕ → ℕ → Answer ℕ → Type 0
 ValueOr low xs place (accepted v next) = ValueFound low xs place v next
 ValueOr low xs place (refused n c) = Unit {0}
 
 -- a marker, and as many bytes as it says
-module _ (xs : List ℕ) (place next marker n : ℕ) (f : ByteFound xs place marker next) (told : (bytes : List ℕ) → length bytes ≡ n → TellsValue 5 (unsignedValue bytes) (marker ∷ bytes)) where
+module _ (xs : List ℕ) (place next marker n : ℕ) (f : ByteFound xs place marker next) (tells : (bytes : List ℕ) → length bytes ≡ n → TellsValue 5 (unsignedValue bytes) (marker ∷ bytes)) where
   marked : (a : Answer ℕ) → fixedFrom n xs next ≡ a → ValueOr 5 xs place a
   marked (accepted v after) e =
       let g = fixed-found n xs next v after e in
       record {
         bytes = marker ∷ g .bytes;
-        tells = subst (λ (x : ℕ). TellsValue 5 x (marker ∷ g .bytes)) (sym (g .stands)) (told (g .bytes) (g .sized));
+        told = subst (λ (x : ℕ). TellsValue 5 x (marker ∷ g .bytes)) (sym (g .stands)) (tells (g .bytes) (g .sized));
         here = f .here ∙ ap (λ (t : List ℕ). marker ∷ t) (g .here);
         ends = omega (arith, f .ends, g .ends, g .sized);
         inside = g .inside;
@@ -55,55 +67,48 @@ long-found xs place =
     (λ g. let i : b ≡ 254 = eqb-true b 254 g in marked xs place next 254 2 (subst (λ (x : ℕ). ByteFound xs place x next) i f) two (fixedFrom 2 xs next) refl)
     (λ g. either (ValueOr 5 xs place) (eqb b 255)
     (λ h. let i : b ≡ 255 = eqb-true b 255 h in marked xs place next 255 4 (subst (λ (x : ℕ). ByteFound xs place x next) i f) four (fixedFrom 4 xs next) refl)
-    (λ h. record { bytes = b ∷ []; tells = one (eqb-false b 254 g) (eqb-false b 255 h); here = f .here; ends = f .ends; inside = omega (arith, f .ends, f .inside) })))
+    (λ h. told-by-one f (one (eqb-false b 254 g) (eqb-false b 255 h)))))
     (λ n c e. tt)
 
 value-found : (low : ℕ) (xs : List ℕ) (place : ℕ) → place ≤ length xs → ValueOr low xs place (tagValueFrom low xs place)
 unfolding tagValueFrom
 value-found low xs place l =
     either (ValueOr low xs place) (ltb low 5)
-    (λ e. record { bytes = []; tells = inline (ltb-true low 5 e); here = refl; ends = omega arith; inside = l })
+    (λ e. told-by-none xs place (inline (ltb-true low 5 e)) l)
     (λ e. either (ValueOr low xs place) (eqb low 5)
     (λ f. subst (λ (x : ℕ). ValueOr x xs place (then (byteFrom xs place) (λ b next. if (eqb b 254) (fixedFrom 2 xs next) (if (eqb b 255) (fixedFrom 4 xs next) (accepted b next))))) (sym (eqb-true low 5 f)) (long-found xs place))
-    (λ f. let g : low ≡ 5 → ⊥ = eqb-false low 5 f in record { bytes = []; tells = none (omega (arith, ltb-false low 5 e)); here = refl; ends = omega arith; inside = l }))
+    (λ f. let g : low ≡ 5 → ⊥ = eqb-false low 5 f in told-by-none xs place (none (omega (arith, ltb-false low 5 e))) l))
 
 -- the class and number that a first byte tells, with where they end
 data NumberFound (first : ℕ) (xs : List ℕ) (place : ℕ) : Number → ℕ → Type 0 where
   is-application : classBit first ≡ 0 → NumberFound first xs place (application (numberField first)) place
-  is-long : {n next : ℕ} → classBit first ≡ 1 → 15 ≤ numberField first → ByteFound xs place n next → NumberFound first xs place (context n) next
-  is-opening : classBit first ≡ 1 → numberField first < 15 → lowBits first ≡ 6 → NumberFound first xs place (opening (numberField first)) place
-  is-closing : classBit first ≡ 1 → numberField first < 15 → lowBits first ≡ 7 → NumberFound first xs place (closing (numberField first)) place
-  is-context : classBit first ≡ 1 → numberField first < 15 → lowBits first < 6 → NumberFound first xs place (context (numberField first)) place
+  is-context : {n next : ℕ} → classBit first ≡ 1 → Told (TellsNumber (numberField first) n) xs place next → NumberFound first xs place (contextNumber (lowBits first) n) next
 
 abbrev NumberOr : ℕ → List ℕ → ℕ → Answer Number → Type 0
 NumberOr first xs place (accepted n next) = NumberFound first xs place n next
 NumberOr first xs place (refused k c) = Unit {0}
 
-number-found : (first : ℕ) (xs : List ℕ) (place : ℕ) → NumberOr first xs place (numberFrom first xs place)
+number-found : (first : ℕ) (xs : List ℕ) (place : ℕ) → place ≤ length xs → NumberOr first xs place (numberFrom first xs place)
 unfolding numberFrom
-number-found first xs place =
+number-found first xs place l =
     either (NumberOr first xs place) (eqb (classBit first) 0) (λ e. is-application (eqb-true _ _ e)) (λ e.
     let g : classBit first ≡ 0 → ⊥ = eqb-false _ _ e in
     let c : classBit first ≡ 1 = omega arith in
     either (NumberOr first xs place) (ltb (numberField first) 15)
-    (λ f. let m : numberField first < 15 = ltb-true _ _ f in
-    either (NumberOr first xs place) (eqb (lowBits first) 6) (λ h. is-opening c m (eqb-true _ _ h)) (λ h.
-    either (NumberOr first xs place) (eqb (lowBits first) 7) (λ k. is-closing c m (eqb-true _ _ k)) (λ k.
-    let h6 : lowBits first ≡ 6 → ⊥ = eqb-false _ _ h in
-    let h7 : lowBits first ≡ 7 → ⊥ = eqb-false _ _ k in
-    is-context c m (omega arith))))
-    (λ f. read-on (NumberOr first xs place) (byteFrom xs place) (λ n next h. is-long c (ltb-false _ _ f) (byte-found xs place n next h)) (λ k d h. tt)))
+    (λ f. is-context c (told-by-none xs place (inField (ltb-true _ _ f)) l))
+    (λ f. read-on (NumberOr first xs place) (byteFrom xs place) (λ n next h. is-context c (told-by-one (byte-found xs place n next h) (inSecond (ltb-false _ _ f)))) (λ k d h. tt)))
 
 -- a number takes one byte more at the most, inside the buffer
+number-length : {field n : ℕ} {bytes : List ℕ} → TellsNumber field n bytes → length bytes ≤ 1
+number-length (inField m) = omega arith
+number-length (inSecond m) = omega arith
+
 number-within : {first : ℕ} {xs : List ℕ} {place : ℕ} {n : Number} {next : ℕ} → NumberFound first xs place n next → place ≤ length xs → (next ≤ place + 1) × (next ≤ length xs)
 number-within (is-application c) l = omega arith
-number-within (is-long c m g) l = omega (arith, g .inside, g .ends)
-number-within (is-opening c m h) l = omega arith
-number-within (is-closing c m h) l = omega arith
-number-within (is-context c m h) l = omega arith
+number-within (is-context c m) l = (omega (arith, m .ends, number-length (m .told)), m .inside)
 
 pub number-ends : (first : ℕ) (xs : List ℕ) (place : ℕ) (n : Number) (next : ℕ) → numberFrom first xs place ≡ accepted n next → place ≤ length xs → (next ≤ place + 1) × (next ≤ length xs)
-number-ends first xs place n next e l = number-within (subst (NumberOr first xs place) e (number-found first xs place)) l
+number-ends first xs place n next e l = number-within (subst (NumberOr first xs place) e (number-found first xs place l)) l
 
 -- low bits above 5 tell 0, with no bytes
 none-told : {low v : ℕ} {bytes : List ℕ} → TellsValue low v bytes → 5 < low → (v ≡ 0) × (bytes ≡ [])
@@ -112,6 +117,23 @@ none-told (one h k) l = absurd (omega arith)
 none-told (two bytes h) l = absurd (omega arith)
 none-told (four bytes h) l = absurd (omega arith)
 none-told (none h) l = (refl, refl)
+
+-- what is told of a number and a value in context class is one tag, by the low bits
+module _ {first n v : ℕ} {number bytes : List ℕ} (c : classBit first ≡ 1) (m : TellsNumber (numberField first) n number) (w : TellsValue (lowBits first) v bytes) where
+  block-told : (k : Number) → 5 < lowBits first → IsTag (tag k 0) (first ∷ number) → IsTag (tag k v) (first ∷ (number ++ bytes))
+  block-told k l i =
+      let z = none-told w l in
+      subst₂ (λ (x : ℕ) (bs : List ℕ). IsTag (tag k x) (first ∷ bs)) (sym (z .0)) (sym (ap (λ (bs : List ℕ). number ++ bs) (z .1) ∙ append-nil number)) i
+
+  context-told : IsTag (tag (contextNumber (lowBits first) n) v) (first ∷ (number ++ bytes))
+  context-told =
+      either (λ (k : Number). IsTag (tag k v) (first ∷ (number ++ bytes))) (eqb (lowBits first) 6)
+      (λ e. let h : lowBits first ≡ 6 = eqb-true _ _ e in block-told (opening n) (omega arith) (ofOpening c m h)) (λ e.
+      either (λ (k : Number). IsTag (tag k v) (first ∷ (number ++ bytes))) (eqb (lowBits first) 7)
+      (λ f. let h : lowBits first ≡ 7 = eqb-true _ _ f in block-told (closing n) (omega arith) (ofClosing c m h)) (λ f.
+      let h6 : lowBits first ≡ 6 → ⊥ = eqb-false _ _ e in
+      let h7 : lowBits first ≡ 7 → ⊥ = eqb-false _ _ f in
+      ofContext c m (omega arith) w))
 
 -- a tag that was read: its bytes stand at the place, and end inside the buffer
 pub record TagFound (xs : List ℕ) (place : ℕ) (t : Tag) (next : ℕ) : Type 0 where
@@ -127,44 +149,34 @@ TagOr xs place (accepted t next) = TagFound xs place t next
 TagOr xs place (refused n c) = Unit {0}
 
 module _ (first : ℕ) (xs : List ℕ) (place p : ℕ) (f : ByteFound xs place first p) where
-  -- the first byte, and then the value's bytes
-  short : (t : Tag) (v next : ℕ) (w : ValueFound (lowBits first) xs p v next) → IsTag t (first ∷ w .bytes) → TagFound xs place t next
-  short t v next w i = record {
+  -- the first byte, the number's and the value's
+  joined : (n : Number) (after v next : ℕ) → NumberFound first xs p n after → ValueFound (lowBits first) xs after v next → TagFound xs place (tag n v) next
+  joined _ _ v next (is-application c) w = record {
     bytes = first ∷ w .bytes;
-    is-tag = i;
+    is-tag = ofApplication c (w .told);
     here = f .here ∙ ap (λ (l : List ℕ). first ∷ l) (w .here);
     ends = omega (arith, f .ends, w .ends);
     inside = w .inside;
     small = f .small;
   }
-
-  bare : (t : Tag) (v next : ℕ) → ValueFound (lowBits first) xs p v next → 5 < lowBits first → IsTag (tag (t .number) 0) (first ∷ []) → TagFound xs place (tag (t .number) v) next
-  bare t v next w l i =
-      let z = none-told (w .tells) l in
-      short (tag (t .number) v) v next w (subst (λ (bs : List ℕ). IsTag (tag (t .number) v) (first ∷ bs)) (sym (z .1)) (subst (λ (x : ℕ). IsTag (tag (t .number) x) (first ∷ [])) (sym (z .0)) i))
-
-  joined : (n : Number) (after v next : ℕ) → NumberFound first xs p n after → ValueFound (lowBits first) xs after v next → TagFound xs place (tag n v) next
-  joined _ _ v next (is-application c) w = short _ v next w (ofApplication c (w .tells))
-  joined _ _ v next (is-long {n} c m g) w = record {
-    bytes = first ∷ n ∷ w .bytes;
-    is-tag = ofLongContext c m (w .tells);
-    here = f .here ∙ ap (λ (l : List ℕ). first ∷ l) (g .here ∙ ap (λ (l : List ℕ). n ∷ l) (w .here));
-    ends = omega (arith, f .ends, g .ends, w .ends);
+  joined _ _ v next (is-context c m) w = record {
+    bytes = first ∷ (m .bytes ++ w .bytes);
+    is-tag = context-told c (m .told) (w .told);
+    here = f .here ∙ ap (λ (l : List ℕ). first ∷ l) (m .here ∙ ap (λ (l : List ℕ). m .bytes ++ l) (w .here) ∙ sym (append-assoc (m .bytes) (w .bytes) (drop next xs)));
+    ends = omega (arith, f .ends, m .ends, w .ends, length-append (m .bytes) (w .bytes));
     inside = w .inside;
     small = f .small;
   }
-  joined _ _ v next (is-opening c m h) w = bare (tag (opening (numberField first)) 0) v next w (omega arith) (ofOpening c m h)
-  joined _ _ v next (is-closing c m h) w = bare (tag (closing (numberField first)) 0) v next w (omega arith) (ofClosing c m h)
-  joined _ _ v next (is-context c m h) w = short _ v next w (ofContext c m h (w .tells))
 
   after-found : TagOr xs place (tagAfter first xs p)
   unfolding tagAfter
   after-found =
       read-on (TagOr xs place) (numberFrom first xs p)
       (λ n after e.
-      let m : NumberFound first xs p n after = subst (NumberOr first xs p) e (number-found first xs p) in
+      let l : p ≤ length xs = omega (arith, f .inside, f .ends) in
+      let m : NumberFound first xs p n after = subst (NumberOr first xs p) e (number-found first xs p l) in
       read-on (TagOr xs place) (tagValueFrom (lowBits first) xs after)
-      (λ v next g. joined n after v next m (subst (ValueOr (lowBits first) xs after) g (value-found (lowBits first) xs after (number-within m (omega (arith, f .inside, f .ends)) .1))))
+      (λ v next g. joined n after v next m (subst (ValueOr (lowBits first) xs after) g (value-found (lowBits first) xs after (number-within m l .1))))
       (λ k c g. tt))
       (λ k c e. tt)
 
@@ -206,48 +218,44 @@ module _ (xs : List ℕ) (small : length xs ≤ 65535) where
   first-read first place rest e = simp (byte-at xs place first rest small e)
 
   -- what a first byte tells, class by class
-  module _ (first p : ℕ) where
-    number-application : classBit first ≡ 0 → numberFrom first xs p ≡ accepted (application (numberField first)) p
-    unfolding numberFrom
-    number-application c = simp (eq-eqb _ _ c)
+  number-application : (first p : ℕ) → classBit first ≡ 0 → numberFrom first xs p ≡ accepted (application (numberField first)) p
+  unfolding numberFrom
+  number-application first p c = simp (eq-eqb _ _ c)
 
-    number-long : (n : ℕ) (rest : List ℕ) → classBit first ≡ 1 → 15 ≤ numberField first → drop p xs ≡ n ∷ rest → numberFrom first xs p ≡ accepted (context n) (p + 1)
-    unfolding numberFrom
-    number-long n rest c m e = simp (c, le-ltb _ _ m, byte-at xs p n rest small e)
+  number-context : (first p : ℕ) {n : ℕ} {number : List ℕ} → classBit first ≡ 1 → TellsNumber (numberField first) n number → (rest : List ℕ) → drop p xs ≡ number ++ rest
+      → numberFrom first xs p ≡ accepted (contextNumber (lowBits first) n) (p + length number)
+  unfolding numberFrom
+  number-context first p c (inField m) rest e = simp (c, lt-ltb _ _ m, add-zero)
+  number-context first p c (inSecond {n = n} m) rest e = simp (c, le-ltb _ _ m, byte-at xs p n rest small e)
 
-    number-opening : classBit first ≡ 1 → numberField first < 15 → lowBits first ≡ 6 → numberFrom first xs p ≡ accepted (opening (numberField first)) p
-    unfolding numberFrom
-    number-opening c m h = simp (c, lt-ltb _ _ m, h)
+  -- a first byte, the bytes of its number and those of its value
+  parts-read : (first place v : ℕ) (k : Number) (number bytes rest : List ℕ) → ((p : ℕ) → drop p xs ≡ number ++ (bytes ++ rest) → numberFrom first xs p ≡ accepted k (p + length number))
+      → TellsValue (lowBits first) v bytes → drop place xs ≡ first ∷ (number ++ (bytes ++ rest)) → tagFrom xs place ≡ accepted (tag k v) (place + suc (length number + length bytes))
+  parts-read first place v k number bytes rest number-is w e =
+      let e₂ : drop (place + 1) xs ≡ number ++ (bytes ++ rest) = behind xs place (first ∷ []) (number ++ (bytes ++ rest)) e in
+      let l : place + 1 + length number ≤ length xs = omega (arith, length-drop place xs, ap length e, length-append number (bytes ++ rest)) in
+      first-read first place (number ++ (bytes ++ rest)) e
+      ∙ after-read first (place + 1) (place + 1 + length number) v k bytes rest (number-is (place + 1) e₂) w l (behind xs (place + 1) number (bytes ++ rest) e₂)
+      ∙ ap (accepted (tag k v)) (let z : place + 1 + length number + length bytes ≡ place + suc (length number + length bytes) = omega arith in z)
 
-    number-closing : classBit first ≡ 1 → numberField first < 15 → lowBits first ≡ 7 → numberFrom first xs p ≡ accepted (closing (numberField first)) p
-    unfolding numberFrom
-    number-closing c m h = simp (c, lt-ltb _ _ m, h)
-
-    number-context : classBit first ≡ 1 → numberField first < 15 → lowBits first < 6 → numberFrom first xs p ≡ accepted (context (numberField first)) p
-    unfolding numberFrom
-    number-context c m h = simp (c, lt-ltb _ _ m, ne-eqb (lowBits first) 6 (omega arith), ne-eqb (lowBits first) 7 (omega arith))
-
-  -- a tag of one byte and its value's bytes
-  short-read : (first place v : ℕ) (n : Number) (bytes rest : List ℕ) → ((p : ℕ) → numberFrom first xs p ≡ accepted n p) → TellsValue (lowBits first) v bytes → drop place xs ≡ first ∷ (bytes ++ rest)
-      → tagFrom xs place ≡ accepted (tag n v) (place + suc (length bytes))
-  short-read first place v n bytes rest number w e =
-      let l : place + 1 ≤ length xs = omega (arith, length-drop place xs, ap length e) in
-      first-read first place (bytes ++ rest) e
-      ∙ after-read first (place + 1) (place + 1) v n bytes rest (number (place + 1)) w l (behind xs place (first ∷ []) (bytes ++ rest) e)
-      ∙ ap (accepted (tag n v)) (let z : place + 1 + length bytes ≡ place + suc (length bytes) = omega arith in z)
+  -- in context class, where the low bits say which kind of tag it is
+  context-read : (first place : ℕ) {n v : ℕ} {number bytes : List ℕ} → classBit first ≡ 1 → TellsNumber (numberField first) n number → TellsValue (lowBits first) v bytes
+      → (k : Number) → contextNumber (lowBits first) n ≡ k → (rest : List ℕ) → drop place xs ≡ first ∷ (number ++ (bytes ++ rest)) → tagFrom xs place ≡ accepted (tag k v) (place + suc (length number + length bytes))
+  context-read first place {n} {v} {number} {bytes} c m w k is rest e =
+      parts-read first place v k number bytes rest (λ p d. number-context first p c m (bytes ++ rest) d ∙ ap (λ (x : Number). accepted x (p + length number)) is) w e
 
   -- what stands there is read
   pub tag-read : (place : ℕ) (t : Tag) (bytes rest : List ℕ) → drop place xs ≡ bytes ++ rest → IsTag t bytes → tagFrom xs place ≡ accepted t (place + length bytes)
-  tag-read place _ _ rest e (ofApplication {first} {v} {bytes} c w) = short-read first place v _ bytes rest (λ p. number-application first p c) w e
-  tag-read place _ _ rest e (ofLongContext {first} {n} {v} {bytes} c m w) =
-      let e₂ : drop (place + 1) xs ≡ n ∷ (bytes ++ rest) = behind xs place (first ∷ []) (n ∷ (bytes ++ rest)) e in
-      let l : place + 1 + 1 ≤ length xs = omega (arith, length-drop place xs, ap length e) in
-      first-read first place (n ∷ (bytes ++ rest)) e
-      ∙ after-read first (place + 1) (place + 1 + 1) v (context n) bytes rest (number-long first (place + 1) n (bytes ++ rest) c m e₂) w l (behind xs (place + 1) (n ∷ []) (bytes ++ rest) e₂)
-      ∙ ap (accepted (tag (context n) v)) (let z : place + 1 + 1 + length bytes ≡ place + suc (suc (length bytes)) = omega arith in z)
-  tag-read place _ _ rest e (ofContext {first} {v} {bytes} c m h w) = short-read first place v _ bytes rest (λ p. number-context first p c m h) w e
-  tag-read place _ _ rest e (ofOpening {first} c m h) = short-read first place 0 _ [] rest (λ p. number-opening first p c m h) (none (omega arith)) e
-  tag-read place _ _ rest e (ofClosing {first} c m h) = short-read first place 0 _ [] rest (λ p. number-closing first p c m h) (none (omega arith)) e
+  tag-read place _ _ rest e (ofApplication {first} {v} {bytes} c w) =
+      parts-read first place v _ [] bytes rest (λ p d. number-application first p c ∙ ap (accepted (application (numberField first))) (sym (add-zero p))) w e
+      ∙ ap (accepted (tag (application (numberField first)) v)) (let z : place + suc (0 + length bytes) ≡ place + suc (length bytes) = omega arith in z)
+  tag-read place _ _ rest e (ofContext {first} {n} {v} {number} {bytes} c m h w) =
+      context-read first place c m w (context n) (simp (ne-eqb (lowBits first) 6 (omega arith), ne-eqb (lowBits first) 7 (omega arith))) rest (e ∙ ap (λ (l : List ℕ). first ∷ l) (append-assoc number bytes rest))
+      ∙ ap (λ (j : ℕ). accepted (tag (context n) v) (place + suc j)) (sym (length-append number bytes))
+  tag-read place _ _ rest e (ofOpening {first} {n} {number} c m h) =
+      context-read first place c m (none (omega arith)) (opening n) (simp h) rest e ∙ ap (λ (j : ℕ). accepted (tag (opening n) 0) (place + suc j)) (add-zero (length number))
+  tag-read place _ _ rest e (ofClosing {first} {n} {number} c m h) =
+      context-read first place c m (none (omega arith)) (closing n) (simp h) rest e ∙ ap (λ (j : ℕ). accepted (tag (closing n) 0) (place + suc j)) (add-zero (length number))
 
 -- a tag has one to seven bytes
 told-length : {low v : ℕ} {bytes : List ℕ} → TellsValue low v bytes → length bytes ≤ 5
@@ -259,10 +267,9 @@ told-length (none h) = omega arith
 
 pub tag-length : {t : Tag} {bytes : List ℕ} → IsTag t bytes → (1 ≤ length bytes) × (length bytes ≤ 7)
 tag-length (ofApplication c w) = omega (arith, told-length w)
-tag-length (ofLongContext c m w) = omega (arith, told-length w)
-tag-length (ofContext c m h w) = omega (arith, told-length w)
-tag-length (ofOpening c m h) = omega arith
-tag-length (ofClosing c m h) = omega arith
+tag-length (ofContext {number = number} {bytes} c m h w) = omega (arith, number-length m, told-length w, length-append number bytes)
+tag-length (ofOpening c m h) = omega (arith, number-length m)
+tag-length (ofClosing c m h) = omega (arith, number-length m)
 
 -- a tag that was read ends after its place, inside the buffer, at most seven bytes on
 pub moves-on : (xs : List ℕ) (place : ℕ) (t : Tag) (next : ℕ) → tagFrom xs place ≡ accepted t next → (place < next) × (next ≤ place + 7) × (next ≤ length xs)
@@ -282,7 +289,6 @@ same-elsewhere xs place t next e before rest small =
 -- an opening and a closing that bytes carry have the value 0
 pub block-has-no-value : {t : Tag} {bytes : List ℕ} → IsTag t bytes → Valueless (t .number) (t .value)
 block-has-no-value (ofApplication c w) = tt
-block-has-no-value (ofLongContext c m w) = tt
 block-has-no-value (ofContext c m h w) = tt
 block-has-no-value (ofOpening c m h) = refl
 block-has-no-value (ofClosing c m h) = refl

@@ -1,11 +1,15 @@
--- Document 01's starred examples, all twelve with their headers, by one statement over their list, which antt computes.
+-- Document 01's starred examples, all twelve with their headers, and tags read in either form of a block's number (document 02, K1), by one statement over each list, which antt computes.
 -- Assumes nothing.
 use mathlib.Core.Path.{_≡_, refl}
 use Prim.Native.Nat.{ℕ}
-use mathlib.Core.List.{List, [], _∷_}
+use mathlib.Core.List.{List, [], _∷_, map}
 use lib.IntN.{pos, negsuc}
-use Rattle.types.specs.Tag.{application, context, tag}
+use Rattle.types.specs.Tag.{application, context, opening, closing, Tag, tag}
+use Rattle.types.specs.Refusal.{amount, tagFound}
+use Rattle.types.specs.Answer.{Answer, accepted, refused}
 use Rattle.numbers.specs.Integer.{unsignedLength, signedLength, unsignedBytes, signedBytes}
+use Rattle.numbers.specs.Reading.{byteFrom, sliceFrom, fixedFrom}
+use Rattle.tags.specs.Reading.{numberFrom, tagValueFrom, tagAfter, tagFrom, expectedFrom}
 use Rattle.tags.specs.Writing.{tagBytes}
 use Rattle.tags.specs.Item.{itemBytes}
 
@@ -29,3 +33,19 @@ expected =
 pub starred : written ≡ expected
 unfolding tagBytes unsignedBytes unsignedLength signedBytes signedLength
 starred = refl
+
+-- openings of 3 in the field and behind it, of 15 and of 255; closings of 3 likewise; one whose number is missing; a context tag of 3 behind the field; application 15, which neither opens nor closes
+abbrev pub blocks : List (List ℕ)
+blocks =
+    (0x3E ∷ []) ∷ (0xFE ∷ 0x03 ∷ []) ∷ (0xFE ∷ 0x0F ∷ []) ∷ (0xFE ∷ 0xFF ∷ []) ∷ (0x3F ∷ []) ∷ (0xFF ∷ 0x03 ∷ [])
+    ∷ (0xFE ∷ []) ∷ (0xF9 ∷ 0x03 ∷ []) ∷ (0xF6 ∷ []) ∷ (0xF7 ∷ []) ∷ []
+
+abbrev pub blocksRead : List (Answer Tag)
+blocksRead =
+    accepted (tag (opening 3) 0) 1 ∷ accepted (tag (opening 3) 0) 2 ∷ accepted (tag (opening 15) 0) 2 ∷ accepted (tag (opening 255) 0) 2 ∷ accepted (tag (closing 3) 0) 1 ∷ accepted (tag (closing 3) 0) 2
+    ∷ refused 3 (amount 1) ∷ accepted (tag (context 3) 1) 2 ∷ accepted (tag (application 15) 0) 1 ∷ accepted (tag (application 15) 0) 1 ∷ []
+
+-- where context 15 is expected, its opening is another tag
+pub both-forms : (map (λ (xs : List ℕ). tagFrom xs 0) blocks ≡ blocksRead) × (expectedFrom (context 15) (0xFE ∷ 0x0F ∷ []) 0 ≡ refused 4 (tagFound (tag (opening 15) 0)))
+unfolding byteFrom sliceFrom fixedFrom numberFrom tagValueFrom tagAfter tagFrom expectedFrom
+both-forms = (refl, refl)

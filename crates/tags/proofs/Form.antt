@@ -1,20 +1,22 @@
 -- A tag is written in its form: in the fewest bytes that stand for it, and in no others.
 -- Assumes nothing.
 use mathlib.Core.Path.{_≡_, refl, _∙_, ap, ap₂, sym, subst}
-use Prim.Native.Nat.{ℕ, zero, suc, _+_, _*_, _^_, _<_, _≤_}
+use mathlib.Core.Logic.{_↔_}
+use Prim.Native.Nat.{ℕ, zero, suc, _+_, _*_, _<_, _≤_}
 use native.Mathlib.Omega.{arith}
 use mathlib.Core.List.{List, [], _∷_, _++_, append-nil}
 use lib.Dec.{lit<}
-use lib.ListN.{length}
+use lib.ListN.{length, length-append}
 use borrow.Author.Tests.{lt-ltb, le-ltb}
 use Rattle.types.specs.Tag.{Number, application, context, opening, closing, Tag, tag}
 use Rattle.numbers.specs.Integer.{lowBytes, unsignedValue, Bytes}
 use Rattle.numbers.proofs.Value.{value-lt}
-use Rattle.numbers.proofs.Low.{low-bytes-length, low-bytes-are-bytes, low-bytes-of-value}
-use Rattle.tags.specs.Header.{classBit, numberField, lowBits, TellsValue, inline, one, two, four, none, IsTag, ofApplication, ofLongContext, ofContext, ofOpening, ofClosing}
+use Rattle.numbers.proofs.Low.{low-bytes-are-bytes, low-bytes-of-value}
+use Rattle.tags.specs.Header.{classBit, numberField, lowBits, TellsValue, inline, one, two, four, none, TellsNumber, inField, inSecond, IsTag, ofApplication, ofContext, ofOpening, ofClosing}
 use Rattle.tags.specs.Writing.{lowBitsFor, tagValueBytes, contextBytes, numberBytes, tagBytes}
 use Rattle.tags.specs.Form.{StandsFor, zeroLow, firstLow, Form}
-use Rattle.tags.proofs.Range.{InRange}
+use Rattle.tags.proofs.Range.{InRange, number-range, in-range}
+use Rattle.tags.proofs.Held.{context-short}
 use Rattle.tags.proofs.BySize.{split, to-four, from-five, low-lt, few, alone, in-two, in-four, most-one, most-three, most-five}
 use Rattle.tags.proofs.Back.{header-is-tag}
 
@@ -59,15 +61,27 @@ first-is first = omega arith
 low-is : (v low : ℕ) → (0 < v → low ≡ lowBitsFor v) → (v ≡ 0 → low ≡ 0) → low ≡ lowBitsFor v
 low-is v low f g = split 0 v f (λ h. let z : v ≡ 0 = omega arith in g z ∙ ap lowBitsFor (sym z))
 
+-- no fewer bytes tell a context number
+number-least : {field n : ℕ} {number : List ℕ} → TellsNumber field n number → (low : ℕ) → length (contextBytes n low) ≤ suc (length number)
+number-least (inField {field} m) low = simp (lt-ltb field 15 m) (omega arith)
+number-least (inSecond {n = n} m) low = omega (arith, context-short n low)
+
+-- and no others as few
+number-only : (first : ℕ) {n : ℕ} {number : List ℕ} → classBit first ≡ 1 → TellsNumber (numberField first) n number → first < 256 → (low : ℕ) → lowBits first ≡ low → suc (length number) ≡ length (contextBytes n low) → first ∷ number ≡ contextBytes n low
+number-only first c (inField m) h low k l =
+    let e : first ≡ numberField first * 16 + 8 + low = omega (arith, first-is first) in
+    simp (lt-ltb (numberField first) 15 m) (ap (λ (x : ℕ). x ∷ []) e)
+number-only first c (inSecond {n = n} m) h low k l =
+    let e : first ≡ 248 + low = omega (arith, first-is first) in
+    split n 15 (λ j. absurd (omega (arith, simp (lt-ltb n 15 j) at l))) (λ j. simp (le-ltb n 15 j) (ap (λ (x : ℕ). x ∷ n ∷ []) e))
+
 -- no fewer bytes stand for a tag
 least : {t : Tag} {other : List ℕ} → IsTag t other → Bytes other → length (numberBytes (t .number) (t .value)) ≤ length other
 least (ofApplication c w) b = omega (arith, value-least w (λ i. b (suc i)))
-least (ofLongContext {n = n} c m w) b =
-    let l = value-least w (λ i. b (suc (suc i))) in
-    split n 15 (λ h. simp (lt-ltb n 15 h) (omega arith)) (λ h. simp (le-ltb n 15 h) (omega arith))
-least (ofContext {first} c m h w) b = let l = value-least w (λ i. b (suc i)) in simp (lt-ltb (numberField first) 15 m) (omega arith)
-least (ofOpening {first} c m h) b = simp (lt-ltb (numberField first) 15 m) (omega arith)
-least (ofClosing {first} c m h) b = simp (lt-ltb (numberField first) 15 m) (omega arith)
+least (ofContext {n = n} {v} {number} {bytes} c m h w) b =
+    omega (arith, number-least m (lowBitsFor v), value-least w (number-range m bytes b .1), length-append (contextBytes n (lowBitsFor v)) (tagValueBytes v), length-append number bytes)
+least (ofOpening c m h) b = number-least m 6
+least (ofClosing c m h) b = number-least m 7
 
 -- and no others as few
 only : {t : Tag} {other : List ℕ} → IsTag t other → Bytes other → length other ≡ length (numberBytes (t .number) (t .value)) → (t .value ≡ 0 → firstLow other ≡ zeroLow (t .number)) → other ≡ numberBytes (t .number) (t .value)
@@ -75,23 +89,16 @@ only (ofApplication {first} {v} c w) b l z =
     let f = value-only w (λ i. b (suc i)) (omega arith) in
     let k : lowBits first ≡ lowBitsFor v = low-is v (lowBits first) (f .low-same) z in
     ap₂ _∷_ (let e : first ≡ numberField first * 16 + lowBitsFor v = omega (arith, first-is first) in e) (f .same)
-only (ofLongContext {first} {n} {v} {bytes} c m w) b l z =
-    let g = value-least w (λ i. b (suc (suc i))) in
-    split n 15 (λ h. absurd (omega (arith, simp (lt-ltb n 15 h) at l)))
-    (λ h.
-    let f = value-only w (λ i. b (suc (suc i))) (omega (arith, simp (le-ltb n 15 h) at l)) in
-    let k : lowBits first ≡ lowBitsFor v = low-is v (lowBits first) (f .low-same) z in
-    let e : first ≡ 248 + lowBitsFor v = omega (arith, first-is first, b 0) in
-    simp (le-ltb n 15 h) (ap₂ (λ (x : ℕ) (bs : List ℕ). x ∷ n ∷ bs) e (f .same)))
-only (ofContext {first} {v} c m h w) b l z =
-    let f = value-only w (λ i. b (suc i)) (omega (arith, simp (lt-ltb (numberField first) 15 m) at l)) in
-    let k : lowBits first ≡ lowBitsFor v = low-is v (lowBits first) (f .low-same) z in
-    let e : first ≡ numberField first * 16 + 8 + lowBitsFor v = omega (arith, first-is first) in
-    simp (lt-ltb (numberField first) 15 m) (ap₂ _∷_ e (f .same))
-only (ofOpening {first} c m h) b l z =
-    let e : first ≡ numberField first * 16 + 8 + 6 = omega (arith, first-is first) in simp (lt-ltb (numberField first) 15 m) (ap (λ (x : ℕ). x ∷ []) e)
-only (ofClosing {first} c m h) b l z =
-    let e : first ≡ numberField first * 16 + 8 + 7 = omega (arith, first-is first) in simp (lt-ltb (numberField first) 15 m) (ap (λ (x : ℕ). x ∷ []) e)
+only (ofContext {first} {n} {v} {number} {bytes} c m h w) b l z =
+    let r = number-range m bytes b .1 in
+    let p = number-least m (lowBitsFor v) in
+    let q = value-least w r in
+    let s = length-append (contextBytes n (lowBitsFor v)) (tagValueBytes v) in
+    let t = length-append number bytes in
+    let f = value-only w r (omega arith) in
+    ap₂ _++_ (number-only first c m (b 0) (lowBitsFor v) (low-is v (lowBits first) (f .low-same) z) (omega arith)) (f .same)
+only (ofOpening {first} c m h) b l z = number-only first c m (b 0) 6 h l
+only (ofClosing {first} c m h) b l z = number-only first c m (b 0) 7 h l
 
 -- a value of 0 is told by the low bits of 0
 zero-low : (n : Number) → firstLow (numberBytes n 0) ≡ zeroLow n
@@ -120,8 +127,8 @@ context-below n low bs h k b =
 number-below : (n : Number) (v : ℕ) → InRange n v → Bytes (numberBytes n v)
 number-below (application n) v r = also (n * 16 + lowBitsFor v) (tagValueBytes v) (omega (arith, low-lt v)) (value-below v)
 number-below (context n) v r = context-below n (lowBitsFor v) (tagValueBytes v) (r .0) (omega (arith, low-lt v)) (value-below v)
-number-below (opening n) v r = rw append-nil at (context-below n 6 [] (omega (arith, r .0)) (lit< tt) (λ i. lit< tt))
-number-below (closing n) v r = rw append-nil at (context-below n 7 [] (omega (arith, r .0)) (lit< tt) (λ i. lit< tt))
+number-below (opening n) v r = rw append-nil at (context-below n 6 [] (r .0) (lit< tt) (λ i. lit< tt))
+number-below (closing n) v r = rw append-nil at (context-below n 7 [] (r .0) (lit< tt) (λ i. lit< tt))
 
 -- the bytes that are written for a tag have its form
 pub written-form : (n : Number) (v : ℕ) → InRange n v → Form (tag n v) (tagBytes (tag n v))
@@ -136,3 +143,9 @@ written-form n v r = record {
 -- and no other bytes have it
 pub one-form : {t : Tag} {a b : List ℕ} → Form t a → Form t b → a ≡ b
 one-form {t} {a} {b} f g = g .only a (f .stands) (let l = f .least b (g .stands) in let k = g .least a (f .stands) in omega arith) (f .zero)
+
+-- bytes that stand for a tag are written again for it exactly if they have its form: an opening of 3 that stood as `FE 03` is written `3E`
+pub written-again : {t : Tag} {bytes : List ℕ} → StandsFor t bytes → (tagBytes t ≡ bytes) ↔ Form t bytes
+written-again {t} {bytes} s =
+    let f = written-form (t .number) (t .value) (in-range (s .whole) (s .below)) in
+    (λ e. subst (Form t) e f, λ g. one-form f g)

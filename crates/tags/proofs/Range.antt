@@ -1,10 +1,10 @@
 -- Which tags bytes can carry, and that a tag is read or the bytes run out.
 -- Assumes nothing.
-use mathlib.Core.Path.{_≡_, refl, subst}
+use mathlib.Core.Path.{_≡_, refl, sym, subst}
 use Prim.Native.Nat.{ℕ, suc, _+_, _^_, _<_, _≤_}
 use native.Mathlib.Omega.{arith}
 use mathlib.Core.Bool.{Bool, true, false}
-use mathlib.Core.List.{List, _++_}
+use mathlib.Core.List.{List, [], _∷_, _++_, append-nil}
 use lib.Dec.{ltb, leb, eqb}
 use lib.ListN.{length, drop}
 use borrow.Author.Tests.{le-ltb, ltb-true, leb-true}
@@ -18,15 +18,15 @@ use Rattle.numbers.specs.Reading.{byteFrom, partAt, bytesIn, sliceFrom, fixedFr
 use Rattle.numbers.proofs.Value.{value-lt}
 use Rattle.numbers.proofs.Found.{byte-found}
 use Rattle.tags.specs.Reading.{numberFrom, tagValueFrom, tagAfter, tagFrom}
-use Rattle.tags.specs.Header.{classBit, numberField, lowBits, TellsValue, inline, one, two, four, none, IsTag, ofApplication, ofLongContext, ofContext, ofOpening, ofClosing}
+use Rattle.tags.specs.Header.{classBit, numberField, lowBits, TellsValue, inline, one, two, four, none, TellsNumber, inField, inSecond, IsTag, ofApplication, ofContext, ofOpening, ofClosing}
 use Rattle.tags.proofs.Exactly.{number-ends, tag-read}
 
--- a tag that bytes can carry: an application number of four bits, a context number of a byte, a block number below 15 with no value, a value of 32 bits
+-- a tag that bytes can carry: an application number of four bits, a context or block number of a byte, a value of 32 bits, and none for a block
 abbrev pub InRange : Number → ℕ → Type 0
 InRange (application n) v = (n < 16) × (v < 2 ^ 32)
 InRange (context n) v = (n < 256) × (v < 2 ^ 32)
-InRange (opening n) v = (n < 15) × (v ≡ 0)
-InRange (closing n) v = (n < 15) × (v ≡ 0)
+InRange (opening n) v = (n < 256) × (v ≡ 0)
+InRange (closing n) v = (n < 256) × (v ≡ 0)
 
 told-range : {low v : ℕ} {bytes : List ℕ} → TellsValue low v bytes → Bytes bytes → v < 2 ^ 32
 told-range (inline h) b = omega arith
@@ -35,13 +35,17 @@ told-range (two bytes h) b = omega (arith, rw h at (value-lt bytes (λ i. b (suc
 told-range (four bytes h) b = rw h at (value-lt bytes (λ i. b (suc i)))
 told-range (none h) b = omega arith
 
+-- behind a first byte a number is a byte, and so are those behind it
+pub number-range : {first field n : ℕ} {number : List ℕ} → TellsNumber field n number → (rest : List ℕ) → Bytes (first ∷ (number ++ rest)) → (n < 256) × Bytes rest
+number-range (inField m) rest b = (omega arith, λ i. b (suc i))
+number-range (inSecond m) rest b = (b 1, λ i. b (suc (suc i)))
+
 -- bytes below 256 carry no other
 pub in-range : {t : Tag} {bytes : List ℕ} → IsTag t bytes → Bytes bytes → InRange (t .number) (t .value)
 in-range (ofApplication c w) b = (omega (arith, b 0), told-range w (λ i. b (suc i)))
-in-range (ofLongContext c m w) b = (b 1, told-range w (λ i. b (suc (suc i))))
-in-range (ofContext c m h w) b = (omega (arith, b 0), told-range w (λ i. b (suc i)))
-in-range (ofOpening c m h) b = (m, refl)
-in-range (ofClosing c m h) b = (m, refl)
+in-range (ofContext {bytes = bytes} c m h w) b = let r = number-range m bytes b in (r .0, told-range w (r .1))
+in-range (ofOpening {first} {number = number} c m h) b = (number-range m [] (subst (λ (bs : List ℕ). Bytes (first ∷ bs)) (sym (append-nil number)) b) .0, refl)
+in-range (ofClosing {first} {number = number} c m h) b = (number-range m [] (subst (λ (bs : List ℕ). Bytes (first ∷ bs)) (sym (append-nil number)) b) .0, refl)
 
 -- a refusal of a read is 3, and carries the buffer's end or a place past it, at most so far
 pub record RunsOut (xs : List ℕ) (most n : ℕ) (c : Carried) : Type 0 where
@@ -100,7 +104,7 @@ module _ (xs : List ℕ) (small : length xs ≤ 65535) where
   number-or first place l =
       either (OrRunsOut xs place) (eqb (classBit first) 0) (λ e. tt) (λ e.
       either (OrRunsOut xs place) (ltb (numberField first) 15)
-      (λ f. either (OrRunsOut xs place) (eqb (lowBits first) 6) (λ g. tt) (λ g. either (OrRunsOut xs place) (eqb (lowBits first) 7) (λ h. tt) (λ h. tt)))
+      (λ f. tt)
       (λ f. read-on (OrRunsOut xs place) (byteFrom xs place) (λ n next g. tt) (λ n c g. subst (OrRunsOut xs place) g (byte-or place l))))
 
   after-or : (first place : ℕ) → place ≤ length xs → OrRunsOut xs (place + 6) (tagAfter first xs place)

@@ -2,7 +2,7 @@
 -- Assumes nothing.
 use Prim.Native.Nat.{ℕ, _/_, _%_, _<_, _≤_}
 use mathlib.Core.Path.{_≡_}
-use mathlib.Core.List.{List, [], _∷_}
+use mathlib.Core.List.{List, [], _∷_, _++_}
 use lib.ListN.{length}
 use Rattle.types.specs.Tag.{application, context, opening, closing, Tag, tag}
 use Rattle.numbers.specs.Integer.{unsignedValue}
@@ -27,13 +27,18 @@ pub data TellsValue : ℕ → ℕ → List ℕ → Type 0 where
   four : (bytes : List ℕ) → length bytes ≡ 4 → TellsValue 5 (unsignedValue bytes) (255 ∷ bytes)
   none : {low : ℕ} → 5 < low → TellsValue low 0 []
 
--- bytes that are one whole tag (20.2.1.4, 20.2.1.5; 20.2.1.3.2 for those that open and close): in context class a field of 15 says that the number is the second byte
+-- a number field in context class, the number that it tells, and the bytes that follow for it: below 15 it is the number, and 15 says that the second byte is, whatever that is (20.2.1.2)
+pub data TellsNumber : ℕ → ℕ → List ℕ → Type 0 where
+  inField : {field : ℕ} → field < 15 → TellsNumber field field []
+  inSecond : {field n : ℕ} → 15 ≤ field → TellsNumber field n (n ∷ [])
+
+-- bytes that are one whole tag (20.2.1.4, 20.2.1.5): in context class low bits 6 open and 7 close, with no bytes for a value (20.2.1.3.2)
 pub data IsTag : Tag → List ℕ → Type 0 where
   ofApplication : {first v : ℕ} {bytes : List ℕ} → classBit first ≡ 0
       → TellsValue (lowBits first) v bytes → IsTag (tag (application (numberField first)) v) (first ∷ bytes)
-  ofLongContext : {first n v : ℕ} {bytes : List ℕ} → classBit first ≡ 1 → 15 ≤ numberField first
-      → TellsValue (lowBits first) v bytes → IsTag (tag (context n) v) (first ∷ n ∷ bytes)
-  ofContext : {first v : ℕ} {bytes : List ℕ} → classBit first ≡ 1 → numberField first < 15 → lowBits first < 6
-      → TellsValue (lowBits first) v bytes → IsTag (tag (context (numberField first)) v) (first ∷ bytes)
-  ofOpening : {first : ℕ} → classBit first ≡ 1 → numberField first < 15 → lowBits first ≡ 6 → IsTag (tag (opening (numberField first)) 0) (first ∷ [])
-  ofClosing : {first : ℕ} → classBit first ≡ 1 → numberField first < 15 → lowBits first ≡ 7 → IsTag (tag (closing (numberField first)) 0) (first ∷ [])
+  ofContext : {first n v : ℕ} {number bytes : List ℕ} → classBit first ≡ 1 → TellsNumber (numberField first) n number → lowBits first < 6
+      → TellsValue (lowBits first) v bytes → IsTag (tag (context n) v) (first ∷ (number ++ bytes))
+  ofOpening : {first n : ℕ} {number : List ℕ} → classBit first ≡ 1 → TellsNumber (numberField first) n number → lowBits first ≡ 6
+      → IsTag (tag (opening n) 0) (first ∷ number)
+  ofClosing : {first n : ℕ} {number : List ℕ} → classBit first ≡ 1 → TellsNumber (numberField first) n number → lowBits first ≡ 7
+      → IsTag (tag (closing n) 0) (first ∷ number)

@@ -8,7 +8,7 @@
 //                                          c is 1 and the field 15
 //
 //    c         class: 0 application, 1 context
-//    low bits  0 to 4 the value; 5 the value follows; 6 opens and 7 closes a block, where c is 1 and the field below 15; else they tell 0
+//    low bits  0 to 4 the value; 5 the value follows; 6 open and 7 close a block, where c is 1; else they tell 0
 //    value     0 to 253 in one byte; 254 and two bytes; 255 and four bytes, most significant first
 ghost use mathlib.Core.Path.{_≡_};
 ghost use Prim.Native.Nat.{_≤_};
@@ -16,7 +16,7 @@ ghost use lib.ListN.{length};
 ghost use Rattle.types.specs.Tag.{numberOf, tagOf};
 ghost use Rattle.types.specs.Answer.{paperOutcome};
 ghost use Rattle.numbers.specs.Reading.{paperWord};
-ghost use Rattle.tags.specs.Reading.{numberFrom, tagValueFrom, tagAfter, tagFrom, expectedFrom, sameNumber, expectedNumber, expectedValue, paperNumber, paperTag};
+ghost use Rattle.tags.specs.Reading.{contextNumber, numberFrom, tagValueFrom, tagAfter, tagFrom, expectedFrom, sameNumber, expectedNumber, expectedValue, paperNumber, paperTag};
 use numbers::ByteRead;
 use numbers::WordRead;
 use types::ApplicationTagNumber;
@@ -115,20 +115,24 @@ fn number_after(first: u8, buf: &[u8], place: usize) -> NumberRead
     }
     if field == 15 {
         return match numbers::read_byte(buf, place) {
-            ByteRead::Byte(number, next) => NumberRead::Number(
-                TagNumber::ContextSpecific(number),
-                next,
-            ),
+            ByteRead::Byte(number, next) => NumberRead::Number(context_number(low, number), next),
             ByteRead::Refused(r) => NumberRead::Refused(r),
         };
     }
+    NumberRead::Number(context_number(low, field), place)
+}
+
+// The class and number of a tag in context class: low bits 6 open and 7 close a block.
+fn context_number(low: u8, number: u8) -> TagNumber
+    ensures { λ r. ⌜ numberOf r ≡ contextNumber low number ⌝ }
+{
     if low == 6 {
-        return NumberRead::Number(TagNumber::ContextSpecificOpening(field), place);
+        return TagNumber::ContextSpecificOpening(number);
     }
     if low == 7 {
-        return NumberRead::Number(TagNumber::ContextSpecificClosing(field), place);
+        return TagNumber::ContextSpecificClosing(number);
     }
-    NumberRead::Number(TagNumber::ContextSpecific(field), place)
+    TagNumber::ContextSpecific(number)
 }
 
 // Reads on the value that a tag's low bits tell: it is in the bytes from this place on where it is long.

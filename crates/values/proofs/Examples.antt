@@ -5,7 +5,7 @@ use Prim.Native.Nat.{ℕ}
 use mathlib.Core.Bool.{true}
 use mathlib.Core.List.{List, [], _∷_, map}
 use lib.IntN.{negsuc}
-use Rattle.types.specs.Tag.{application, context, tag}
+use Rattle.types.specs.Tag.{application, context, opening, tag}
 use Rattle.types.specs.Refusal.{amount, tagFound}
 use Rattle.types.specs.Answer.{Answer, accepted, refused}
 use Rattle.numbers.specs.Reading.{partAt, byteFrom, sliceFrom, fixedFrom, contentFrom, unsignedFrom, signedFrom}
@@ -31,7 +31,7 @@ buffers =
     ∷ (0x70 ∷ []) ∷ (0x71 ∷ 0x05 ∷ []) ∷ (0x75 ∷ 0x09 ∷ 0x04 ∷ []) ∷ (0x71 ∷ 0x00 ∷ []) ∷ (0x74 ∷ 0x00 ∷ 0xE2 ∷ 0x82 ∷ 0x41 ∷ [])
     ∷ (0x80 ∷ []) ∷ (0x81 ∷ 0x09 ∷ []) ∷ (0x60 ∷ [])
     ∷ (0x95 ∷ 0x05 ∷ 0x01 ∷ 0x00 ∷ 0x00 ∷ 0x00 ∷ 0x00 ∷ []) ∷ (0x94 ∷ 0xFF ∷ 0xFF ∷ 0xFF ∷ 0xFF ∷ [])
-    ∷ (0x00 ∷ []) ∷ (0x55 ∷ 0x08 ∷ []) ∷ (0x1C ∷ []) ∷ (0x43 ∷ []) ∷ []
+    ∷ (0x00 ∷ []) ∷ (0x55 ∷ 0x08 ∷ []) ∷ (0x1C ∷ []) ∷ (0x43 ∷ []) ∷ (0xFE ∷ 0x0F ∷ []) ∷ []
 
 abbrev pub answers : List (Answer Value)
 answers =
@@ -41,7 +41,7 @@ answers =
     ∷ refused 7 (amount 0) ∷ refused 9 (amount 5) ∷ refused 9 (amount 4) ∷ accepted (characterString (partAt 2 0)) 2 ∷ refused 10 (amount 0)
     ∷ refused 7 (amount 0) ∷ accepted (bitString 9 (partAt 2 0)) 2 ∷ accepted (octetString (partAt 1 0)) 1
     ∷ refused 18 (amount 0) ∷ accepted (enumerated 4294967295) 5
-    ∷ refused 8 (tagFound (tag (application 0) 0)) ∷ refused 8 (tagFound (tag (application 5) 8)) ∷ refused 8 (tagFound (tag (context 1) 4)) ∷ refused 7 (amount 3) ∷ []
+    ∷ refused 8 (tagFound (tag (application 0) 0)) ∷ refused 8 (tagFound (tag (application 5) 8)) ∷ refused 8 (tagFound (tag (context 1) 4)) ∷ refused 7 (amount 3) ∷ refused 8 (tagFound (tag (opening 15) 0)) ∷ []
 
 pub edges : map (λ (xs : List ℕ). valueFrom xs 0) buffers ≡ answers
 unfolding byteFrom sliceFrom fixedFrom contentFrom unsignedFrom signedFrom numberFrom tagValueFrom tagAfter tagFrom UTF8-1 UTF8-2 UTF8-3 UTF8-4 UTF8-char within begins sequenceLength afterFirst checkFrom checkOf booleanUnder floatUnder realOrDouble textIn textUnder bitsUnder enumeratedUnder dateUnder timeUnder objectIdUnder ofKind underTag valueFrom

@@ -12,7 +12,7 @@ use Rattle.walk.specs.Tag.{itemFrom}
 use Rattle.walk.specs.Walk.{seen, walked, Step, ends, goes, stepFrom, walkFor, walkOn, walkFrom, Report, report, reported}
 use Rattle.walk.specs.Step.{opened, stepAt}
 
--- 3E 2F 3F; 3E 4E 3F; 3E 21 07 3F; 3E 15 3F 3F; 3E 3E 3F; 3E 24 00 3F; an octet string of 4,294,967,295 bytes; seventeen openings; no bytes
+-- 3E 2F 3F; 3E 4E 3F; 3E 21 07 3F; 3E 15 3F 3F; 3E 3E 3F; 3E 24 00 3F; an octet string of 4,294,967,295 bytes; seventeen openings; no bytes; 0E FF 00; FE 0F FF 10
 abbrev pub given : List Report
 given =
     reported (walkFrom (0x3E ∷ 0x2F ∷ 0x3F ∷ []) 0)
@@ -23,7 +23,9 @@ given =
     ∷ reported (walkFrom (0x3E ∷ 0x24 ∷ 0x00 ∷ 0x3F ∷ []) 0)
     ∷ reported (walkFrom (0x65 ∷ 0xFF ∷ 0xFF ∷ 0xFF ∷ 0xFF ∷ 0xFF ∷ []) 0)
     ∷ reported (walkFrom (0x0E ∷ 0x0E ∷ 0x0E ∷ 0x0E ∷ 0x0E ∷ 0x0E ∷ 0x0E ∷ 0x0E ∷ 0x0E ∷ 0x0E ∷ 0x0E ∷ 0x0E ∷ 0x0E ∷ 0x0E ∷ 0x0E ∷ 0x0E ∷ 0x0E ∷ []) 0)
-    ∷ reported (walkFrom [] 0) ∷ []
+    ∷ reported (walkFrom [] 0)
+    ∷ reported (walkFrom (0x0E ∷ 0xFF ∷ 0x00 ∷ []) 0)
+    ∷ reported (walkFrom (0xFE ∷ 0x0F ∷ 0xFF ∷ 0x10 ∷ []) 0) ∷ []
 
 abbrev pub expected : List Report
 expected =
@@ -35,7 +37,9 @@ expected =
     ∷ report 1 (stopped 3 (amount 6))
     ∷ report 0 (stopped 3 (amount 4294967301))
     ∷ report 16 (stopped 16 (amount 16))
-    ∷ report 0 passed ∷ []
+    ∷ report 0 passed
+    ∷ report 2 passed
+    ∷ report 1 (stopped 15 (amount 2)) ∷ []
 
 pub examples : given ≡ expected
 unfolding byteFrom sliceFrom fixedFrom numberFrom tagValueFrom tagAfter tagFrom itemFrom stepFrom walkFor walkOn walkFrom
