@@ -1,8 +1,8 @@
 #!/usr/bin/env python3
 """Writes stdin and stdout of this crate: lines of hexadecimal, and the text that document 01 asks for.
 
-It is the second source of the expected text: a reading of document 01 ("Tags", "Bodies", "Headers", "The program"), not
-of the program's code. The first twelve lines of stdout are 01's own sample, which this script asserts.
+It is the second source of the expected text: a reading of document 01 ("Tags", "Bodies", "Headers", "The program") and of
+document 02 (K1), not of the program's code. The first twelve lines of stdout are 01's own sample, which this script asserts.
 """
 import os
 
@@ -42,7 +42,7 @@ def read_tag(frame, place):
     if context and number == 15:
         number = byte(frame, place)
         place += 1
-    elif context and low in (6, 7):
+    if context and low in (6, 7):
         return "open" if low == 6 else "close", number, 0, place
     if low < 5:
         return kind, number, low, place
@@ -147,10 +147,14 @@ def lines():
     # blocks: closed, unclosed, crossed, closed by another number, a closing alone
     for tags in ("3E3F", "3E", "3F", "3E4E4F3F", "3E4E3F4F", "3E2F", "0E1E2E3E2F", "0E0E0F0F", "0E0F0F", "EEEF", "3E21073F3F", "3E24003F", "2F", "3E3E3F"):
         yield head + tags
+    # blocks whose number is a byte of its own, from 15 on and below: in either form, within one another, crossed, and cut before the number
+    for tags in ("FE0F2107FF0F", "FEFFFFFF", "FE03FF03", "3E2107FF03", "FE0321073F", "0EFF00", "FE10EEEFFF10", "3EFE1021073FFF10", "FE0FFF10", "FE0FFF", "FE", "FF", "FF0F"):
+        yield head + tags
     # sixteen blocks open at once, and one more
     for deep in (15, 16, 17, 18):
         yield head + "3E" * deep + "2107" + "3F" * deep
         yield "00050105" + "".join(f"{n % 15:X}E" for n in range(deep)) + "".join(f"{n % 15:X}F" for n in reversed(range(deep)))
+        yield head + "FE05" * deep + "5F" * deep
         yield head + "5E" * deep
     # lines of 2,952 digits and past them; the longest text
     yield head + "65FE05BD" + "AB" * 1469
