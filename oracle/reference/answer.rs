@@ -4,16 +4,22 @@ use crate::headers::header;
 use crate::integers::{signed, unsigned};
 use crate::reading::{byte, open, slice};
 use crate::refusal::Refusal;
-use crate::tags::{expected, expected_value, tag};
+use crate::tags::{expected, expected_value, tag, LongBlockTags};
 use crate::utf8;
 use crate::values::value;
 use crate::walk::walk;
 use crate::writing::write;
 use protocol::{put_hex, Read, Request, Write};
 
+// What the port must answer.
 pub fn answer(request: &Request) -> String {
+    answer_reading(LongBlockTags::OpenAndClose, request)
+}
+
+// The answer where long block tags are read this way.
+pub fn answer_reading(long: LongBlockTags, request: &Request) -> String {
     match request {
-        Request::Read { what, place, buf } => read_answer(what, buf, *place),
+        Request::Read { what, place, buf } => read_answer(what, long, buf, *place),
         Request::Write { what, place, capacity } => write_answer(what, *place, *capacity),
     }
 }
@@ -28,23 +34,23 @@ fn write_answer(what: &Write, place: usize, capacity: usize) -> String {
     answer
 }
 
-fn read_answer(what: &Read, buf: &[u8], place: usize) -> String {
+fn read_answer(what: &Read, long: LongBlockTags, buf: &[u8], place: usize) -> String {
     if let Err(refusal) = open(buf, place) {
         return if counts(what) { format!("{refusal} 0") } else { refusal.to_string() };
     }
     match what {
-        Read::Body { allowance } => body_answer(body(*allowance, buf, place)),
+        Read::Body { allowance } => body_answer(body(*allowance, long, buf, place)),
         Read::BodyFor { number, allowance } => {
-            body_answer(body_for(*number, *allowance, buf, place))
+            body_answer(body_for(*number, *allowance, long, buf, place))
         }
         Read::OptionalBody { number, allowance } => {
-            optional_answer(optional_body(*number, *allowance, buf, place))
+            optional_answer(optional_body(*number, *allowance, long, buf, place))
         }
-        Read::Walk => match walk(buf, place) {
+        Read::Walk => match walk(long, buf, place) {
             (Ok(()), count) => format!("ok {count}"),
             (Err(refusal), count) => format!("{refusal} {count}"),
         },
-        _ => accepted(what, buf, place).unwrap_or_else(|refusal| refusal.to_string()),
+        _ => accepted(what, long, buf, place).unwrap_or_else(|refusal| refusal.to_string()),
     }
 }
 
@@ -75,7 +81,7 @@ fn optional_answer(answer: OptionalBody) -> String {
 }
 
 // The answer of a read that counts nothing.
-fn accepted(what: &Read, buf: &[u8], place: usize) -> Result<String, Refusal> {
+fn accepted(what: &Read, long: LongBlockTags, buf: &[u8], place: usize) -> Result<String, Refusal> {
     Ok(match what {
         Read::Byte => byte(buf, place).map(|(byte, next)| format!("ok {byte:02x} {next}"))?,
         Read::Bytes(count) => {
@@ -88,11 +94,11 @@ fn accepted(what: &Read, buf: &[u8], place: usize) -> Result<String, Refusal> {
         Read::Part(len) => slice(*len as usize, buf, place).map(|(bytes, _)| ok_hex(bytes))?,
         Read::Unsigned(len) => printed(unsigned(*len, buf, place)?),
         Read::Signed(len) => printed(signed(*len, buf, place)?),
-        Read::Tag => printed(tag(buf, place)?),
-        Read::Expect(name) => printed(expected(*name, buf, place)?),
-        Read::ExpectNumber(name) => format!("ok - {}", expected(*name, buf, place)?.1),
-        Read::ExpectValue(value) => format!("ok - {}", expected_value(*value, buf, place)?.1),
-        Read::Value => printed(value(buf, place)?),
+        Read::Tag => printed(tag(long, buf, place)?),
+        Read::Expect(name) => printed(expected(*name, long, buf, place)?),
+        Read::ExpectNumber(name) => format!("ok - {}", expected(*name, long, buf, place)?.1),
+        Read::ExpectValue(value) => format!("ok - {}", expected_value(*value, long, buf, place)?.1),
+        Read::Value => printed(value(long, buf, place)?),
         Read::Header => printed(header(buf, place)?),
         Read::Utf8 => utf8::check(&buf[place..]).map(|()| "ok".to_string())?,
         Read::Body { .. } | Read::BodyFor { .. } | Read::OptionalBody { .. } | Read::Walk => {

@@ -1,6 +1,6 @@
 // Tagged bodies, with an allowance of tags.
 use crate::refusal::{refuse, Refusal};
-use crate::tags::{content_length, expected, tag};
+use crate::tags::{content_length, expected, tag, LongBlockTags};
 use protocol::{Class, Tag, TagName};
 
 pub struct Body {
@@ -19,13 +19,18 @@ pub enum OptionalBody {
 }
 
 // The body at a place, and the tags read after the opening.
-pub fn body(allowance: u64, buf: &[u8], place: usize) -> (Result<Body, Refusal>, u64) {
-    let opening = tag(buf, place).and_then(|(tag, start)| match tag.name.class {
+pub fn body(
+    allowance: u64,
+    long: LongBlockTags,
+    buf: &[u8],
+    place: usize,
+) -> (Result<Body, Refusal>, u64) {
+    let opening = tag(long, buf, place).and_then(|(tag, start)| match tag.name.class {
         Class::Opening => Ok((tag.name.number, start)),
         _ => Err(Refusal::Tag(6, tag)),
     });
     match opening {
-        Ok((number, start)) => after_opening(number, allowance, buf, start),
+        Ok((number, start)) => after_opening(number, allowance, long, buf, start),
         Err(refusal) => (Err(refusal), 0),
     }
 }
@@ -34,28 +39,35 @@ pub fn body(allowance: u64, buf: &[u8], place: usize) -> (Result<Body, Refusal>,
 pub fn body_for(
     number: u8,
     allowance: u64,
+    long: LongBlockTags,
     buf: &[u8],
     place: usize,
 ) -> (Result<Body, Refusal>, u64) {
-    match expected(TagName { class: Class::Opening, number }, buf, place) {
-        Ok((_, start)) => after_opening(number, allowance, buf, start),
+    match expected(TagName { class: Class::Opening, number }, long, buf, place) {
+        Ok((_, start)) => after_opening(number, allowance, long, buf, start),
         Err(refusal) => (Err(refusal), 0),
     }
 }
 
 // The body at a place if an opening of this number stands there.
-pub fn optional_body(number: u8, allowance: u64, buf: &[u8], place: usize) -> OptionalBody {
+pub fn optional_body(
+    number: u8,
+    allowance: u64,
+    long: LongBlockTags,
+    buf: &[u8],
+    place: usize,
+) -> OptionalBody {
     if place == buf.len() {
         return OptionalBody::Absent(None);
     }
-    let (found, start) = match tag(buf, place) {
+    let (found, start) = match tag(long, buf, place) {
         Ok(read) => read,
         Err(refusal) => return OptionalBody::Refused(refusal, 0),
     };
     if found.name != (TagName { class: Class::Opening, number }) {
         return OptionalBody::Absent(Some(found));
     }
-    match after_opening(number, allowance, buf, start) {
+    match after_opening(number, allowance, long, buf, start) {
         (Ok(body), count) => OptionalBody::Present(body, count),
         (Err(refusal), count) => OptionalBody::Refused(refusal, count),
     }
@@ -65,6 +77,7 @@ pub fn optional_body(number: u8, allowance: u64, buf: &[u8], place: usize) -> Op
 fn after_opening(
     number: u8,
     allowance: u64,
+    long: LongBlockTags,
     buf: &[u8],
     start: usize,
 ) -> (Result<Body, Refusal>, u64) {
@@ -73,7 +86,7 @@ fn after_opening(
         if count == allowance {
             return (refuse(14, count as usize), count);
         }
-        let (tag, next) = match tag(buf, place) {
+        let (tag, next) = match tag(long, buf, place) {
             Ok(read) => read,
             Err(refusal) => return (Err(refusal), count),
         };

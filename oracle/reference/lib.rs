@@ -1,4 +1,4 @@
-// Document 01 a second time, written from it and from docs/DECISIONS.md alone: what the port must answer to each request.
+// Document 01 and request K1 of 02 a second time, written from these and from docs/DECISIONS.md alone: what the port must answer to each request.
 pub mod bodies;
 pub mod headers;
 pub mod integers;
@@ -12,4 +12,4 @@ pub mod writing;
 
 mod answer;
 
-pub use answer::answer;
+pub use answer::{answer, answer_reading};

@@ -4,10 +4,17 @@ use crate::reading::{byte, slice};
 use crate::refusal::Refusal;
 use protocol::{Class, Tag, TagName};
 
+// How a context tag with field 15 and low bits 6 or 7 is read: as the opening or closing of the number in its second byte, or as an ordinary tag.
+#[derive(Debug, Clone, Copy, PartialEq, Eq)]
+pub enum LongBlockTags {
+    OpenAndClose,
+    Ordinary,
+}
+
 // The tag at a place.
-pub fn tag(buf: &[u8], place: usize) -> Result<(Tag, usize), Refusal> {
+pub fn tag(long: LongBlockTags, buf: &[u8], place: usize) -> Result<(Tag, usize), Refusal> {
     let (first, next) = byte(buf, place)?;
-    let (name, next) = name(first, buf, next)?;
+    let (name, next) = name(long, first, buf, next)?;
     let (value, next) = match first % 8 {
         5 => long_value(buf, next)?,
         6 | 7 => (0, next),
@@ -17,20 +24,23 @@ pub fn tag(buf: &[u8], place: usize) -> Result<(Tag, usize), Refusal> {
 }
 
 // Class and number; a context field of 15 has its number in the next byte.
-fn name(first: u8, buf: &[u8], next: usize) -> Result<(TagName, usize), Refusal> {
+fn name(
+    long: LongBlockTags,
+    first: u8,
+    buf: &[u8],
+    next: usize,
+) -> Result<(TagName, usize), Refusal> {
     let field = first / 16;
     let context = first / 8 % 2 == 1;
-    if context && field == 15 {
-        let (number, next) = byte(buf, next)?;
-        return Ok((TagName { class: Class::Context, number }, next));
-    }
     let class = match (context, first % 8) {
         (false, _) => Class::Application,
+        (true, 6 | 7) if field == 15 && long == LongBlockTags::Ordinary => Class::Context,
         (true, 6) => Class::Opening,
         (true, 7) => Class::Closing,
         (true, _) => Class::Context,
     };
-    Ok((TagName { class, number: field }, next))
+    let (number, next) = if context && field == 15 { byte(buf, next)? } else { (field, next) };
+    Ok((TagName { class, number }, next))
 }
 
 // A value that follows the tag's first bytes.
@@ -46,8 +56,13 @@ fn long_value(buf: &[u8], place: usize) -> Result<(u32, usize), Refusal> {
 }
 
 // The tag at a place, which must have this class and number: else 4.
-pub fn expected(name: TagName, buf: &[u8], place: usize) -> Result<(Tag, usize), Refusal> {
-    let (tag, next) = tag(buf, place)?;
+pub fn expected(
+    name: TagName,
+    long: LongBlockTags,
+    buf: &[u8],
+    place: usize,
+) -> Result<(Tag, usize), Refusal> {
+    let (tag, next) = tag(long, buf, place)?;
     if tag.name != name {
         return Err(Refusal::Tag(4, tag));
     }
@@ -55,8 +70,13 @@ pub fn expected(name: TagName, buf: &[u8], place: usize) -> Result<(Tag, usize),
 }
 
 // The tag at a place, which must have this value: else 5.
-pub fn expected_value(value: u32, buf: &[u8], place: usize) -> Result<(Tag, usize), Refusal> {
-    let (tag, next) = tag(buf, place)?;
+pub fn expected_value(
+    value: u32,
+    long: LongBlockTags,
+    buf: &[u8],
+    place: usize,
+) -> Result<(Tag, usize), Refusal> {
+    let (tag, next) = tag(long, buf, place)?;
     if tag.value != value {
         return Err(Refusal::Tag(5, tag));
     }

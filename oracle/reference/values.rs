@@ -2,7 +2,7 @@
 use crate::integers::{number, signed, unsigned};
 use crate::reading::{byte, slice};
 use crate::refusal::{refuse, Refusal};
-use crate::tags::tag;
+use crate::tags::{tag, LongBlockTags};
 use crate::utf8;
 use protocol::Class;
 
@@ -10,8 +10,8 @@ use protocol::Class;
 pub const REAL_NAN: u32 = 0x7FC0_0000;
 pub const DOUBLE_NAN: u64 = 0x7FF8_0000_0000_0000;
 
-pub fn value(buf: &[u8], place: usize) -> Result<(String, usize), Refusal> {
-    let (tag, next) = tag(buf, place)?;
+pub fn value(long: LongBlockTags, buf: &[u8], place: usize) -> Result<(String, usize), Refusal> {
+    let (tag, next) = tag(long, buf, place)?;
     if tag.name.class != Class::Application {
         return Err(Refusal::Tag(8, tag));
     }

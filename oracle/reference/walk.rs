@@ -1,16 +1,16 @@
 // The strict walk over items and blocks, from a place to the buffer's end.
 use crate::refusal::{refuse, Refusal};
-use crate::tags::{content_length, tag};
+use crate::tags::{content_length, tag, LongBlockTags};
 use protocol::{Class, Tag};
 
 const BLOCKS: usize = 16;
 
 // Whether the walk accepts, and how many tags it accepted.
-pub fn walk(buf: &[u8], mut place: usize) -> (Result<(), Refusal>, u64) {
+pub fn walk(long: LongBlockTags, buf: &[u8], mut place: usize) -> (Result<(), Refusal>, u64) {
     let mut open = Vec::new();
     let mut count = 0;
     while place < buf.len() {
-        match item_tag(buf, place, &mut open) {
+        match item_tag(long, buf, place, &mut open) {
             Ok((_, next)) => place = next,
             Err(refusal) => return (Err(refusal), count),
         }
@@ -24,8 +24,13 @@ pub fn walk(buf: &[u8], mut place: usize) -> (Result<(), Refusal>, u64) {
 }
 
 // One tag, and the place after its content; the open blocks follow it.
-fn item_tag(buf: &[u8], place: usize, open: &mut Vec<u8>) -> Result<(Tag, usize), Refusal> {
-    let (tag, next) = tag(buf, place)?;
+fn item_tag(
+    long: LongBlockTags,
+    buf: &[u8],
+    place: usize,
+    open: &mut Vec<u8>,
+) -> Result<(Tag, usize), Refusal> {
+    let (tag, next) = tag(long, buf, place)?;
     let end = next + content_length(tag);
     if end > buf.len() {
         return refuse(3, end);

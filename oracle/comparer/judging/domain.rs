@@ -2,7 +2,7 @@
 use protocol::{Class, Header, Read, Request, Value, Write};
 use reference::headers::LAST_CHOICE;
 use reference::reading::LONGEST;
-use reference::tags::tag;
+use reference::tags::{tag, LongBlockTags};
 use reference::utf8;
 use reference::writing::lent;
 
@@ -19,10 +19,11 @@ fn answering(why: &'static str, answer: impl Into<String>) -> Option<Outside> {
     Some(Outside { why, answer: Some(answer.into()) })
 }
 
-pub fn outside(request: &Request, port: &str) -> Option<Outside> {
+// Why a request is outside, if it is; a body's allowance is spent or not as the Rust reads its tags.
+pub fn outside(request: &Request, ordinary: &str) -> Option<Outside> {
     match request {
         Request::Read { what, place, buf } => {
-            ends(buf.len(), *place, buf.len()).or_else(|| read(what, buf, *place, port))
+            ends(buf.len(), *place, buf.len()).or_else(|| read(what, buf, *place, ordinary))
         }
         Request::Write { what, place, capacity } => {
             let longest = (*capacity).max(lent(what).len());
@@ -41,18 +42,18 @@ fn ends(longest: usize, place: usize, end: usize) -> Option<Outside> {
     None
 }
 
-fn read(what: &Read, buf: &[u8], place: usize, port: &str) -> Option<Outside> {
+fn read(what: &Read, buf: &[u8], place: usize, ordinary: &str) -> Option<Outside> {
     match what {
         Read::OptionalBody { .. } => answering("the Rust has no optional body", "none"),
         Read::Walk => answering("the Rust has no strict walk", "none"),
         Read::Body { allowance } | Read::BodyFor { allowance, .. }
             if *allowance < buf.len() as u64 =>
         {
-            let spent = port.starts_with("refused 14 ");
-            let answer = (!spent).then(|| port.to_string());
+            let spent = ordinary.starts_with("refused 14 ");
+            let answer = (!spent).then(|| ordinary.to_string());
             Some(Outside { why: "allowance smaller than the buffer", answer })
         }
-        Read::Value => match tag(buf, place) {
+        Read::Value => match tag(LongBlockTags::Ordinary, buf, place) {
             Ok((tag, _)) if tag.name.class == Class::Application && tag.name.number == 12 => {
                 answering("object identifier", "none")
             }

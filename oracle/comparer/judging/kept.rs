@@ -1,6 +1,6 @@
 // Rows that 01 keeps from the Rust: which of them an equal answer shows.
 use protocol::{Read, Request, Value, Write};
-use reference::tags::{tag, tag_bytes};
+use reference::tags::{tag, tag_bytes, LongBlockTags};
 use reference::walk::walk;
 
 pub fn row(request: &Request, answer: &str) -> Option<&'static str> {
@@ -16,7 +16,7 @@ pub fn row(request: &Request, answer: &str) -> Option<&'static str> {
         Request::Read { what: Read::Body { .. } | Read::BodyFor { .. }, buf, .. } => {
             let start = words.next()?.parse().ok()?;
             let len: usize = words.next()?.parse().ok()?;
-            let crosses = match walk(&buf[..start + len], start).0 {
+            let crosses = match walk(LongBlockTags::OpenAndClose, &buf[..start + len], start).0 {
                 Err(refusal) => refusal.to_string().starts_with("refused 15 "),
                 Ok(()) => false,
             };
@@ -36,10 +36,7 @@ fn tag_row(bytes: &[u8], answer: &str) -> Option<&'static str> {
     if answer.starts_with("ok C 255 ") {
         return Some("context number 255");
     }
-    if bytes[0] >= 0xFE {
-        return Some("openings and closings of 15 and more");
-    }
-    let (tag, read) = tag(bytes, 0).ok()?;
+    let (tag, read) = tag(LongBlockTags::OpenAndClose, bytes, 0).ok()?;
     let shortest = tag_bytes(tag).len() + usize::from(bytes[0] >= 0xF8 && tag.name.number < 15);
     (shortest < read).then_some("overlong values")
 }
@@ -54,7 +51,10 @@ fn value_row(
     match case {
         "Double" => Some("Double under the Real tag"),
         "Date" if first == "2155" => Some("year byte 255"),
-        "Boolean" => (tag(buf, place).ok()?.0.value > 1).then_some("Boolean above 1"),
+        "Boolean" => {
+            let (tag, _) = tag(LongBlockTags::OpenAndClose, buf, place).ok()?;
+            (tag.value > 1).then_some("Boolean above 1")
+        }
         "Bits" => {
             let unused: u8 = first.parse().ok()?;
             let empty = third == Some("0");

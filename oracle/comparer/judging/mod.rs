@@ -5,6 +5,8 @@ mod reads;
 mod writes;
 
 use protocol::{Read, Request};
+use reference::answer_reading;
+use reference::tags::LongBlockTags;
 
 pub enum Verdict {
     Equal,
@@ -38,14 +40,16 @@ pub fn judge(request: &Request, rust: &str, port: &str, reference: &str) -> Verd
         return Verdict::Unexplained(format!("01 asks for: {reference}"));
     }
     let same = without_count(request, port);
-    if let Some(outside) = domain::outside(request, same) {
+    let ordinary = answer_reading(LongBlockTags::Ordinary, request);
+    let ordinary = without_count(request, &ordinary);
+    if let Some(outside) = domain::outside(request, ordinary) {
         return match outside.answer {
             Some(answer) if answer != rust => must(&answer),
             _ => Verdict::Outside(outside.why),
         };
     }
     let rows = match request {
-        Request::Read { what, place, buf } => reads::rust(what, buf, *place),
+        Request::Read { what, place, buf } => reads::rust(what, buf, *place, ordinary),
         Request::Write { what, place, capacity } => writes::rust(what, *place, *capacity, port),
     };
     match rows {

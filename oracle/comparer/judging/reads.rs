@@ -3,20 +3,22 @@ use crate::judging::Rust;
 use protocol::{Class, Header, Read};
 use reference::integers::{number, unsigned};
 use reference::reading::{byte, slice};
-use reference::tags::tag;
+use reference::tags::{tag, LongBlockTags};
 use reference::values::{one_double_nan, one_real_nan};
 
-pub fn rust(what: &Read, buf: &[u8], place: usize) -> Option<Rust> {
-    match what {
+// What the Rust must answer: by another row where one applies, else by (k), the second reading's answer with long block tags as ordinary ones.
+pub fn rust(what: &Read, buf: &[u8], place: usize, ordinary: &str) -> Option<Rust> {
+    let by_row = match what {
         Read::Unsigned(0) | Read::Signed(0) => Rust::panics("panic: integer of length 0"),
         Read::Value => value(buf, place),
         Read::Header => marker_choice(buf, place),
         _ => None,
-    }
+    };
+    by_row.or_else(|| Rust::by("(k)", ordinary.to_string()))
 }
 
 fn value(buf: &[u8], place: usize) -> Option<Rust> {
-    let (tag, next) = tag(buf, place).ok()?;
+    let (tag, next) = tag(LongBlockTags::Ordinary, buf, place).ok()?;
     if tag.name.class != Class::Application {
         return None;
     }
