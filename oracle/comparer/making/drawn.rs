@@ -64,8 +64,12 @@ pub fn bytes(random: &mut Random) -> String {
     let farthest = if random.once_in(20) { length + 3 } else { length };
     let place = random.up_to(farthest);
     let len = random.up_to(10);
-    let number = random.below(16);
-    let class = random.of(&["A", "C", "O", "X"]);
+    let number = match buf.get(place + 1) {
+        Some(second) if random.once_in(4) => *second,
+        _ => random.below(16) as u8,
+    };
+    let classes: &[&str] = if number < 16 { &["A", "C", "O", "X"] } else { &["C", "O", "X"] };
+    let class = random.of(classes);
     let ask = match random.below(17) {
         0 => "rbyte".to_string(),
         1 => format!("rbytes {}", random.of(&[2, 4, 8])),

@@ -1,4 +1,5 @@
 // Item lists, as they should be and damaged, under bodies and walks.
+use crate::making::blocks::{closing, opening};
 use crate::making::lines::read;
 use crate::making::random::Random;
 use protocol::{Class, Tag, TagName};
@@ -10,22 +11,22 @@ const LONGEST: usize = 69_000;
 pub fn draw(random: &mut Random) -> String {
     let mut buf = random_bytes_before(random);
     let place = buf.len();
-    let number = random.below(4) as u8;
+    let number = block_number(random);
     let in_block = random.once_in(2);
     if in_block {
-        buf.push(number * 16 + 0x0E);
+        buf.extend(opening(number, random.once_in(4)));
     }
     let lists = if random.once_in(2000) { 100 + random.up_to(1500) } else { 1 };
     (0..lists).for_each(|_| list(4, random, &mut buf));
     buf.truncate(LONGEST);
     if in_block {
-        buf.push(number * 16 + 0x0F);
+        buf.extend(closing(number, random.once_in(4)));
     }
     if random.once_in(2) {
         damage(&mut buf, random);
     }
     let allowance = if random.once_in(4) { random.up_to(12) } else { buf.len() + random.up_to(3) };
-    let asked = if random.once_in(6) { 15 } else { number };
+    let asked = if random.once_in(6) { block_number(random) } else { number };
     let ask = match random.below(6) {
         0 | 1 => format!("body {allowance}"),
         2 => format!("bodyfor {asked} {allowance}"),
@@ -41,14 +42,23 @@ fn random_bytes_before(random: &mut Random) -> Vec<u8> {
     random.bytes(count)
 }
 
+// Any number, mostly one of four, so that blocks of one number meet.
+fn block_number(random: &mut Random) -> u8 {
+    match random.below(8) {
+        0 => random.byte(),
+        1 => random.of(&[14, 15, 16, 254, 255]),
+        _ => random.below(4) as u8,
+    }
+}
+
 // Up to five items; a block has a list inside.
 pub fn list(depth: u32, random: &mut Random, buf: &mut Vec<u8>) {
     for _ in 0..random.up_to(5) {
         if depth > 0 && random.once_in(3) {
-            let number = random.below(4) as u8;
-            buf.push(number * 16 + 0x0E);
+            let number = block_number(random);
+            buf.extend(opening(number, random.once_in(4)));
             list(depth - 1, random, buf);
-            buf.push(number * 16 + 0x0F);
+            buf.extend(closing(number, random.once_in(4)));
         } else {
             plain(random, buf);
         }

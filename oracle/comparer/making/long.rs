@@ -18,9 +18,11 @@ fn readings(length: usize, lines: &mut Vec<String>) {
     let mut body = null.clone();
     body[0] = 0x3E;
     body[length - 1] = 0x3F;
+    let mut closed_by_two = body.clone();
+    closed_by_two[length - 2..].copy_from_slice(&[0xFF, 3]);
     let opened = vec![0x3E; length];
-    for (buf, place) in [(&null, 0), (&body, 0), (&opened, 0), (&body, length - 1), (&body, length)]
-    {
+    let begun = [&null, &body, &closed_by_two, &opened].map(|buf| (buf, 0));
+    for (buf, place) in begun.into_iter().chain([(&body, length - 1), (&body, length)]) {
         for ask in ASKS {
             lines.push(read(ask, place, buf));
         }

@@ -1,5 +1,6 @@
 // Makes requests, the same for the same seed and count.
 mod alphabets;
+mod blocks;
 mod contents;
 mod dates;
 mod drawn;
@@ -36,12 +37,13 @@ const FAMILIES: &[(u64, Family)] = &[
     (11, Family::Listed(contents::all)),
     (20, Family::Listed(dates::all)),
     (8, Family::Listed(floats::all)),
-    (18, Family::Listed(nesting::all)),
+    (29, Family::Listed(nesting::all)),
     (75, Family::Listed(headers::all)),
     (2, Family::Listed(long::all)),
     (375, Family::Numbered { size: short::SIZE, nth: short::nth }),
     (38, Family::Numbered { size: alphabets::SIZE, nth: alphabets::nth }),
     (30, Family::Numbered { size: alphabets::BLOCKS_SIZE, nth: alphabets::nth_of_blocks }),
+    (20, Family::Numbered { size: alphabets::BLOCK_TAGS_SIZE, nth: alphabets::nth_of_block_tags }),
     (36, Family::Numbered { size: texts::SIZE, nth: texts::nth }),
     (0, Family::Drawn(items::draw)),
     (0, Family::Drawn(frames::draw)),

@@ -29,23 +29,31 @@ fn pair_of(number: u64) -> (usize, Vec<u8>) {
 fn ask_of(number: u64, place: usize, buf: &[u8]) -> String {
     let first = buf.get(place).copied().unwrap_or(0x3E);
     let other = buf.last().copied().unwrap_or(0) % 2;
+    let told = number_told(first, buf.get(place + 1));
     let asks = [
         "rbyte", "rbytes 2", "rslice 1", "part 2", "uns 1", "uns 2", "sig 1", "sig 2", "tag",
         "walk", "value", "utf8", "header", "body 9",
     ];
     match number {
-        14 => format!("bodyfor {} 9", (first >> 4) + other),
-        15 => format!("opt {} 9", (first >> 4) + other),
-        16 => format!("expect {}", tag_name(first, 0)),
-        17 => format!("expnum {}", tag_name(first, other)),
+        14 => format!("bodyfor {} 9", told + other),
+        15 => format!("opt {} 9", told + other),
+        16 => format!("expect {}", tag_name(first, told)),
+        17 => format!("expnum {}", tag_name(first, told + other)),
         18 => format!("expval {}", u32::from(first % 8) + u32::from(other)),
         _ => asks[number as usize].to_string(),
     }
 }
 
-// The class and number that a tag's first byte tells, or the next number.
-fn tag_name(first: u8, more: u8) -> String {
-    let number = (first >> 4) + more;
+// The number that a tag's bytes tell; for an odd one in the second byte the field's 15.
+fn number_told(first: u8, second: Option<&u8>) -> u8 {
+    match second {
+        Some(second) if first >= 0xF8 && second % 2 == 0 => *second,
+        _ => first >> 4,
+    }
+}
+
+// The class that a tag's first byte tells, with a number.
+fn tag_name(first: u8, number: u8) -> String {
     match first & 15 {
         0..=7 => format!("A {}", number % 16),
         14 => format!("O {number}"),

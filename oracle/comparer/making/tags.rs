@@ -1,4 +1,5 @@
 // Tags at every boundary of their numbers and values, read and written.
+use crate::making::blocks::{closing, opening};
 use crate::making::lines::{in_rooms, read};
 
 const NUMBERS: [u8; 8] = [0, 1, 13, 14, 15, 16, 254, 255];
@@ -52,6 +53,7 @@ pub fn all() -> Vec<String> {
         }
         lines.extend(in_rooms(&format!("wpush {number:02x}")).into_iter().take(2));
         long_forms(number, &mut lines);
+        long_block(number, &mut lines);
     }
     (0..=10).for_each(|length| bytes_at_the_end(length, &mut lines));
     lines
@@ -59,6 +61,11 @@ pub fn all() -> Vec<String> {
 
 // Every first byte before each marker and up to five bytes more.
 fn long_forms(first: u8, lines: &mut Vec<String>) {
+    let class = match first {
+        0xFE => "O",
+        0xFF => "X",
+        _ => "C",
+    };
     for marker in [5, 15, 253, 254, 255] {
         for more in 0..=5 {
             let mut buf = vec![first, marker];
@@ -66,12 +73,20 @@ fn long_forms(first: u8, lines: &mut Vec<String>) {
             lines.push(read("tag", 0, &buf));
             let ask = match more % 3 {
                 0 => format!("expval {marker}"),
-                1 => format!("expect C {marker}"),
-                _ => format!("expnum C {}", first >> 4),
+                1 => format!("expect {class} {marker}"),
+                _ => format!("expnum {class} {}", first >> 4),
             };
             lines.push(read(&ask, 0, &buf));
         }
     }
+}
+
+// A block of a number in the long form: its two tags and its body.
+fn long_block(number: u8, lines: &mut Vec<String>) {
+    let buf = [opening(number, true), closing(number, true)].concat();
+    lines.push(read("tag", 0, &buf));
+    lines.push(read("tag", 2, &buf));
+    lines.push(read(&format!("bodyfor {number} 4"), 0, &buf));
 }
 
 // A few bytes read at every place of a short buffer.
