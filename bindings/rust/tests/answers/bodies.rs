@@ -66,11 +66,23 @@ fn a_body_of_the_number_expected() {
     let view = &buf[1..3];
     assert_eq!(within(4, 3), Ok((Body { view, number: 3, tags: 2 }, 4)));
     assert_eq!(within(1, 3), Err(after(1, refused(14, 1))));
-    // 01: 15 or more always ends in 1, 2, 3 or 4
     let found = Tag::new(TagNumber::ContextSpecificOpening(3), 0);
     for number in [2, 4, 15, 255] {
         assert_eq!(within(4, number), Err(refused_tag(4, found)));
     }
+}
+
+#[test]
+fn a_body_between_tags_of_two_bytes() {
+    // 02, K1: the view ends where the closing tag begins, and a tag of two bytes counts once
+    assert_eq!(body(5, &[0x3E, 0x21, 0x07, 0xFF, 0x03]), Ok((1..3, 3, 2, 5)));
+    assert_eq!(body(5, &[0xFE, 0x03, 0x21, 0x07, 0x3F]), Ok((2..4, 3, 2, 5)));
+    assert_eq!(body(9, &[0xFE, 0x0F, 0xFF]), Err(refused(3, 3)));
+    let buf: &[u8] = &[0xFE, 0x10, 0xFF, 0x10];
+    let numbered = |number| read(buf, move |r, b| get_tagged_body_for_tag_within(4, r, b, number));
+    assert_eq!(numbered(16), Ok((Body { view: &[], number: 16, tags: 1 }, 4)));
+    let found = Tag::new(TagNumber::ContextSpecificOpening(16), 0);
+    assert_eq!(numbered(15), Err(refused_tag(4, found)));
 }
 
 #[test]

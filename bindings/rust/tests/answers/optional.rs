@@ -26,8 +26,22 @@ fn what_is_cut_is_never_absent() {
         let cut = read(&block[..len], |r, b| get_optional_tagged_body(r, b, 0));
         assert_eq!(cut, Err(after(tags, refused(3, len as u64))));
     }
-    // a tag that is cut, whatever it might have become
-    assert_eq!(read(&[0xF9], |r, b| get_optional_tagged_body(r, b, 3)), Err(refused(3, 1)));
+    // a tag that is cut, whatever it might have become: an item, or an opening of any number
+    for first in [0xF9, 0xFE] {
+        assert_eq!(read(&[first], |r, b| get_optional_tagged_body(r, b, 3)), Err(refused(3, 1)));
+    }
+}
+
+#[test]
+fn a_block_of_number_15_or_more() {
+    let buf: &[u8] = &[0xFE, 0x0F, 0x21, 0x07, 0xFF, 0x0F];
+    let asked = |number| read(buf, move |r, b| get_optional_tagged_body(r, b, number));
+    assert_eq!(asked(15), Ok((Some(Body { view: &buf[2..4], number: 15, tags: 2 }), 6)));
+    assert_eq!(asked(16), Ok((None, 0)));
+    for (len, tags) in [(1, 0), (2, 0), (3, 1), (4, 1), (5, 1)] {
+        let cut = read(&buf[..len], |r, b| get_optional_tagged_body(r, b, 15));
+        assert_eq!(cut, Err(after(tags, refused(3, len as u64))));
+    }
 }
 
 #[test]

@@ -50,10 +50,23 @@ fn every_context_number_there_and_back() {
         for number in [ContextSpecific(n), ContextSpecificOpening(n), ContextSpecificClosing(n)] {
             let tag = Tag::new(number, 0);
             let bytes = write(2, |w| tag.encode(w)).unwrap();
-            // openings and closings of 15 and more read as ordinary tags (01, kept as in the Rust)
-            let back = if n < 15 { number } else { ContextSpecific(n) };
-            assert_eq!(read(&bytes, Tag::decode), Ok((Tag::new(back, 0), bytes.len())));
+            assert_eq!(read(&bytes, Tag::decode), Ok((tag, bytes.len())));
         }
+    }
+}
+
+#[test]
+fn block_tags_whose_number_is_a_byte_of_its_own() {
+    // 02, K1: the second byte is the number, also below 15; a missing one is 3 with the end
+    for n in 0..=255 {
+        let (opening, closing) = (ContextSpecificOpening(n), ContextSpecificClosing(n));
+        assert_eq!(read(&[0xFE, n], Tag::decode), Ok((Tag::new(opening, 0), 2)));
+        assert_eq!(read(&[0xFF, n], Tag::decode), Ok((Tag::new(closing, 0), 2)));
+    }
+    assert_eq!(read(&[0xFE], Tag::decode), Err(refused(3, 1)));
+    // application 15 neither opens nor closes
+    for first in [0xF6, 0xF7] {
+        assert_eq!(read(&[first], Tag::decode), Ok((Tag::new(Application(Reserve3), 0), 1)));
     }
 }
 

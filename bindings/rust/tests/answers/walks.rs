@@ -21,6 +21,9 @@ fn refusals_with_their_counts() {
     assert_eq!(walk(&at(0), &[0x3E, 0x2F, 0x3F]), Err(after(1, refused(15, 1))));
     // docs/DECISIONS.md
     assert_eq!(walk(&at(0), &[0x3E, 0x4E, 0x3F]), Err(after(2, refused(15, 2))));
+    // 02, K1: a closing of two bytes, of another number and of its own
+    assert_eq!(walk(&at(0), &[0xFE, 0x0F, 0xFF, 0x10]), Err(after(1, refused(15, 2))));
+    assert_eq!(walk(&at(0), &[0x0E, 0xFF, 0x00]), Ok(2));
     let far = [0x25, 0xFF, 0xFF, 0xFF, 0xFF, 0xFF];
     assert_eq!(walk(&at(0), &far), Err(refused(3, 4_294_967_301)));
     // 01, Bodies: a block unclosed at the end gives 3 with the end
