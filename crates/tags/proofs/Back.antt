@@ -1,6 +1,6 @@
 -- What is written reads back: every tag that can be carried, and every integer under every tag that its writer takes.
 -- Assumes nothing.
-use mathlib.Core.Path.{_≡_, _∙_, ap, ap₂, sym, subst, subst₂}
+use mathlib.Core.Path.{_≡_, refl, _∙_, ap, ap₂, sym, subst, subst₂}
 use Prim.Native.Nat.{ℕ, _+_, _*_, _^_, _<_, _≤_}
 use native.Mathlib.Omega.{arith}
 use mathlib.Core.List.{List, [], _∷_, _++_, append-assoc}
@@ -45,22 +45,26 @@ context-bits n low h = (omega arith, omega arith, omega arith)
 long-bits : (low : ℕ) → low < 8 → (classBit (248 + low) ≡ 1) × (15 ≤ numberField (248 + low)) × (lowBits (248 + low) ≡ low)
 long-bits low h = (omega arith, omega arith, omega arith)
 
--- the bytes that are written for a context number, in the field or behind it, tell it, with the low bits
-record NumberWritten (n low : ℕ) (bytes : List ℕ) : Type 0 where
-  first : ℕ
-  number : List ℕ
-  are : bytes ≡ first ∷ number
-  class : classBit first ≡ 1
-  tells : TellsNumber (numberField first) n number
-  low-is : lowBits first ≡ low
+-- a first byte and the bytes behind it that tell a number of context class, with these low bits
+pub record Telling (n low : ℕ) (bytes : List ℕ) : Type 0 where
+  pub first : ℕ
+  pub number : List ℕ
+  pub are : bytes ≡ first ∷ number
+  pub class : classBit first ≡ 1
+  pub tells : TellsNumber (numberField first) n number
+  pub low-is : lowBits first ≡ low
 
-number-written : (n low : ℕ) → low < 8 → NumberWritten n low (contextBytes n low)
-number-written n low h =
-    split n 15
-    (λ k.
+-- in the field, and in a second byte
+pub field-telling : (n low : ℕ) → low < 8 → n < 15 → Telling n low ((n * 16 + 8 + low) ∷ [])
+field-telling n low h k =
     let b = context-bits n low h in
-    record { first = n * 16 + 8 + low; number = []; are = simp (lt-ltb n 15 k); class = b .0; tells = subst (λ (f : ℕ). TellsNumber f n []) (sym (b .1)) (inField k); low-is = b .2 })
-    (λ k. let b = long-bits low h in record { first = 248 + low; number = n ∷ []; are = simp (le-ltb n 15 k); class = b .0; tells = inSecond (b .1); low-is = b .2 })
+    record { first = n * 16 + 8 + low; number = []; are = refl; class = b .0; tells = subst (λ (f : ℕ). TellsNumber f n []) (sym (b .1)) (inField k); low-is = b .2 }
+
+pub second-telling : (n low : ℕ) → low < 8 → Telling n low ((248 + low) ∷ n ∷ [])
+second-telling n low h = let b = long-bits low h in record { first = 248 + low; number = n ∷ []; are = refl; class = b .0; tells = inSecond (b .1); low-is = b .2 }
+
+written-telling : (n low : ℕ) → low < 8 → Telling n low (contextBytes n low)
+written-telling n low h = split n 15 (λ k. simp (lt-ltb n 15 k) (field-telling n low h k)) (λ k. simp (le-ltb n 15 k) (second-telling n low h))
 
 -- the bytes that are written for a tag are that tag
 module _ (n v : ℕ) where
@@ -72,15 +76,15 @@ module _ (n v : ℕ) where
 
   context-is : v < 2 ^ 32 → IsTag (tag (context n) v) (numberBytes (context n) v)
   context-is k =
-      let w = number-written n (lowBitsFor v) (omega (arith, low-lt v)) in
+      let w = written-telling n (lowBitsFor v) (omega (arith, low-lt v)) in
       subst (λ (bs : List ℕ). IsTag (tag (context n) v) (bs ++ tagValueBytes v)) (sym (w .are))
       (ofContext (w .class) (w .tells) (omega (arith, w .low-is, low-lt v)) (subst (λ (x : ℕ). TellsValue x v (tagValueBytes v)) (sym (w .low-is)) (value-told v k)))
 
 opening-is : (n : ℕ) → IsTag (tag (opening n) 0) (numberBytes (opening n) 0)
-opening-is n = let w = number-written n 6 (omega arith) in subst (IsTag (tag (opening n) 0)) (sym (w .are)) (ofOpening (w .class) (w .tells) (w .low-is))
+opening-is n = let w = written-telling n 6 (omega arith) in subst (IsTag (tag (opening n) 0)) (sym (w .are)) (ofOpening (w .class) (w .tells) (w .low-is))
 
 closing-is : (n : ℕ) → IsTag (tag (closing n) 0) (numberBytes (closing n) 0)
-closing-is n = let w = number-written n 7 (omega arith) in subst (IsTag (tag (closing n) 0)) (sym (w .are)) (ofClosing (w .class) (w .tells) (w .low-is))
+closing-is n = let w = written-telling n 7 (omega arith) in subst (IsTag (tag (closing n) 0)) (sym (w .are)) (ofClosing (w .class) (w .tells) (w .low-is))
 
 pub header-is-tag : (n : Number) (v : ℕ) → InRange n v → IsTag (tag n v) (tagBytes (tag n v))
 unfolding tagBytes

@@ -4,6 +4,7 @@ use mathlib.Core.Path.{_≡_, refl, _∙_, ap, sym, subst, subst₂}
 use Prim.Native.Nat.{ℕ, suc, _+_, _-_, _<_, _≤_}
 use native.Mathlib.Nat.{add-zero}
 use native.Mathlib.Omega.{arith}
+use mathlib.Core.Bool.{Bool, true, false}
 use mathlib.Core.List.{List, [], _∷_, _++_, append-assoc, append-nil}
 use lib.Dec.{ltb, eqb}
 use lib.ListN.{length, drop, length-append, length-drop}
@@ -16,9 +17,10 @@ use Rattle.types.proofs.Choices.{either, read-on}
 use Rattle.numbers.specs.Integer.{unsignedValue}
 use Rattle.numbers.specs.Reading.{byteFrom, fixedFrom}
 use Rattle.numbers.proofs.Found.{ByteFound, byte-found, byte-at, fixed-found, fixed-at, behind}
-use Rattle.tags.specs.Reading.{contextNumber, numberFrom, tagValueFrom, tagAfter, tagFrom}
+use Rattle.tags.specs.Reading.{numberTold, contextNumber, numberFrom, tagValueFrom, tagAfter, tagFrom}
 use Rattle.tags.specs.Header.{classBit, numberField, lowBits, TellsValue, inline, one, two, four, none, TellsNumber, inField, inSecond, IsTag, ofApplication, ofContext, ofOpening, ofClosing}
 use Rattle.tags.specs.Writing.{Valueless}
+use Rattle.tags.specs.Held.{FieldWide}
 
 -- bytes of a tag that were read from a place on: they tell what they should, and end inside the buffer
 record Told (tells : List ℕ → Type 0) (xs : List ℕ) (place next : ℕ) : Type 0 where
@@ -79,6 +81,26 @@ value-found low xs place l =
     (λ f. subst (λ (x : ℕ). ValueOr x xs place (then (byteFrom xs place) (λ b next. if (eqb b 254) (fixedFrom 2 xs next) (if (eqb b 255) (fixedFrom 4 xs next) (accepted b next))))) (sym (eqb-true low 5 f)) (long-found xs place))
     (λ f. let g : low ≡ 5 → ⊥ = eqb-false low 5 f in told-by-none xs place (none (omega (arith, ltb-false low 5 e))) l))
 
+-- where the number stands by the first byte as a whole: in the field below 248, and from there on behind it
+module _ (first : ℕ) (xs : List ℕ) (place : ℕ) where
+  pub told-in-field : first < 248 → numberTold first xs place ≡ accepted (numberField first) place
+  told-in-field h =
+      either (λ (a : Answer ℕ). a ≡ accepted (numberField first) place) (eqb (classBit first) 0) (λ e. refl) (λ e.
+      let g : classBit first ≡ 0 → ⊥ = eqb-false _ _ e in
+      either (λ (a : Answer ℕ). a ≡ accepted (numberField first) place) (ltb (numberField first) 15) (λ f. refl) (λ f. absurd (omega (arith, ltb-false (numberField first) 15 f))))
+
+  pub told-behind : 248 ≤ first → first < 256 → numberTold first xs place ≡ byteFrom xs place
+  told-behind h k =
+      either (λ (a : Answer ℕ). a ≡ byteFrom xs place) (eqb (classBit first) 0) (λ e. absurd (omega (arith, eqb-true (classBit first) 0 e))) (λ e.
+      either (λ (a : Answer ℕ). a ≡ byteFrom xs place) (ltb (numberField first) 15) (λ f. absurd (omega (arith, ltb-true (numberField first) 15 f))) (λ f. refl))
+
+  -- a number of application class is the field of a byte
+  pub field-wide : (n next : ℕ) → numberTold first xs place ≡ accepted n next → first < 256 → FieldWide first n
+  field-wide n next t h e =
+      let z : accepted (numberField first) place ≡ accepted n next = simp (eq-eqb _ _ e) at t in
+      let k : numberField first ≡ n = cc in
+      omega arith
+
 -- the class and number that a first byte tells, with where they end
 data NumberFound (first : ℕ) (xs : List ℕ) (place : ℕ) : Number → ℕ → Type 0 where
   is-application : classBit first ≡ 0 → NumberFound first xs place (application (numberField first)) place
@@ -90,13 +112,20 @@ NumberOr first xs place (refused k c) = Unit {0}
 
 number-found : (first : ℕ) (xs : List ℕ) (place : ℕ) → place ≤ length xs → NumberOr first xs place (numberFrom first xs place)
 unfolding numberFrom
-number-found first xs place l =
-    either (NumberOr first xs place) (eqb (classBit first) 0) (λ e. is-application (eqb-true _ _ e)) (λ e.
-    let g : classBit first ≡ 0 → ⊥ = eqb-false _ _ e in
-    let c : classBit first ≡ 1 = omega arith in
-    either (NumberOr first xs place) (ltb (numberField first) 15)
-    (λ f. is-context c (told-by-none xs place (inField (ltb-true _ _ f)) l))
-    (λ f. read-on (NumberOr first xs place) (byteFrom xs place) (λ n next h. is-context c (told-by-one (byte-found xs place n next h) (inSecond (ltb-false _ _ f)))) (λ k d h. tt)))
+number-found first xs place l = go (eqb (classBit first) 0) refl
+  where
+    go : (b : Bool) → eqb (classBit first) 0 ≡ b
+        → NumberOr first xs place (then (if b (accepted (numberField first) place) (if (ltb (numberField first) 15) (accepted (numberField first) place) (byteFrom xs place))) (λ n next. accepted (if b (application n) (contextNumber (lowBits first) n)) next))
+    go true e = is-application (eqb-true _ _ e)
+    go false e =
+        let g : classBit first ≡ 0 → ⊥ = eqb-false _ _ e in
+        let c : classBit first ≡ 1 = omega arith in
+        field (ltb (numberField first) 15) refl c
+      where
+        field : (b : Bool) → ltb (numberField first) 15 ≡ b → classBit first ≡ 1
+            → NumberOr first xs place (then (if b (accepted (numberField first) place) (byteFrom xs place)) (λ n next. accepted (contextNumber (lowBits first) n) next))
+        field true f c = is-context c (told-by-none xs place (inField (ltb-true _ _ f)) l)
+        field false f c = read-on (NumberOr first xs place) (byteFrom xs place) (λ n next h. is-context c (told-by-one (byte-found xs place n next h) (inSecond (ltb-false _ _ f)))) (λ k d h. tt)
 
 -- a number takes one byte more at the most, inside the buffer
 number-length : {field n : ℕ} {bytes : List ℕ} → TellsNumber field n bytes → length bytes ≤ 1

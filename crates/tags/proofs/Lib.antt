@@ -8,6 +8,7 @@ pub mod OneTag
 pub mod Range
 pub mod Refusals
 pub mod Back
+pub mod Blocks
 pub mod Single
 pub mod Examples
 pub mod Form

@@ -17,7 +17,7 @@ use Rattle.numbers.specs.Integer.{unsignedValue, Bytes}
 use Rattle.numbers.specs.Reading.{byteFrom, partAt, bytesIn, sliceFrom, fixedFrom}
 use Rattle.numbers.proofs.Value.{value-lt}
 use Rattle.numbers.proofs.Found.{byte-found}
-use Rattle.tags.specs.Reading.{numberFrom, tagValueFrom, tagAfter, tagFrom}
+use Rattle.tags.specs.Reading.{numberTold, numberFrom, tagValueFrom, tagAfter, tagFrom}
 use Rattle.tags.specs.Header.{classBit, numberField, lowBits, TellsValue, inline, one, two, four, none, TellsNumber, inField, inSecond, IsTag, ofApplication, ofContext, ofOpening, ofClosing}
 use Rattle.tags.proofs.Exactly.{number-ends, tag-read}
 
@@ -102,10 +102,10 @@ module _ (xs : List ℕ) (small : length xs ≤ 65535) where
   number-or : (first place : ℕ) → place ≤ length xs → OrRunsOut xs place (numberFrom first xs place)
   unfolding numberFrom
   number-or first place l =
-      either (OrRunsOut xs place) (eqb (classBit first) 0) (λ e. tt) (λ e.
-      either (OrRunsOut xs place) (ltb (numberField first) 15)
-      (λ f. tt)
-      (λ f. read-on (OrRunsOut xs place) (byteFrom xs place) (λ n next g. tt) (λ n c g. subst (OrRunsOut xs place) g (byte-or place l))))
+      read-on (OrRunsOut xs place) (numberTold first xs place) (λ n next f. tt)
+      (λ k c f. subst (OrRunsOut xs place) f
+      (either (OrRunsOut xs place) (eqb (classBit first) 0) (λ g. tt) (λ g.
+      either (OrRunsOut xs place) (ltb (numberField first) 15) (λ h. tt) (λ h. byte-or place l))))
 
   after-or : (first place : ℕ) → place ≤ length xs → OrRunsOut xs (place + 6) (tagAfter first xs place)
   unfolding tagAfter

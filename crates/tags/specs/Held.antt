@@ -1,17 +1,22 @@
--- About the code alone: the struct that a tag's bytes are built in, what it holds, a tag's byte where it has one, and the beginning of an item. No promise to a caller cites this.
+-- About the code alone: what is known of a number that was read, the struct that a tag's bytes are built in, what it holds, a tag's byte where it has one, and the beginning of an item. No promise to a caller cites this.
 -- Assumes nothing.
 use mathlib.Core.Path.{_≡_}
 use mathlib.Core.Bool.{true}
-use Prim.Native.Nat.{ℕ, _+_}
+use Prim.Native.Nat.{ℕ, _+_, _<_}
 use mathlib.Core.List.{List, [], _∷_, _++_}
 use lib.ListN.{length, set}
 use Rattle.types.specs.Padded.{padded}
 use Rattle.types.specs.Tag.{Number, Tag, tag}
 use Rattle.types.specs.Writing.{Left, can, settled, writeAnswer}
+use Rattle.tags.specs.Header.{classBit}
 use Rattle.tags.specs.Writing.{contextBytes, tagBytes, tagValueAllowed, writableTag}
 use Rattle.tags.specs.declared.header.Header.{Header}
 use Rattle.tags.specs.declared.short.Short.{Short}
 use Rattle.tags.specs.declared.short.Short.the-variants as s
+
+-- a number of application class has four bits
+abbrev pub FieldWide : (first n : ℕ) → Type 0
+FieldWide first n = classBit first ≡ 0 → n < 16
 
 -- the struct that holds these bytes, at most seven, and their number
 abbrev pub holding : List ℕ → Header

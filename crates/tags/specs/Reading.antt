@@ -15,19 +15,27 @@ use Rattle.tags.specs.declared.reading.TagRead.the-variants as r
 use Rattle.tags.specs.declared.reading.NumberRead.{NumberRead}
 use Rattle.tags.specs.declared.reading.NumberRead.the-variants as n
 
--- a number of context class, by the low bits: 6 open and 7 close a block, and any other are an ordinary tag's
+-- the number that the first byte tells: its field, but in context class a field of 15 says that the next byte is the number (20.2.1.2)
+abbrev pub numberTold : (first : ℕ) → List ℕ → ℕ → Answer ℕ
+numberTold first xs place =
+    if (eqb (classBit first) 0) (accepted (numberField first) place)
+    (if (ltb (numberField first) 15) (accepted (numberField first) place)
+    (byteFrom xs place))
+
+-- what has a number of context class, by the low bits: 6 open and 7 close a block, and any other are an ordinary tag's (20.2.1.3.2)
 abbrev pub contextNumber : (low n : ℕ) → Number
 contextNumber low n =
     if (eqb low 6) (opening n)
     (if (eqb low 7) (closing n)
     (context n))
 
--- the class and number that the first byte tells: in application class the field is the number; in context class a field below 15 is the number, and one of 15 says that the next byte is
+-- what has a number, by the first byte
+abbrev pub numbered : (first n : ℕ) → Number
+numbered first n = if (eqb (classBit first) 0) (application n) (contextNumber (lowBits first) n)
+
+-- the class and number that the first byte tells
 unfoldable pub numberFrom : ℕ → List ℕ → ℕ → Answer Number
-numberFrom first xs place =
-    if (eqb (classBit first) 0) (accepted (application (numberField first)) place)
-    (if (ltb (numberField first) 15) (accepted (contextNumber (lowBits first) (numberField first)) place)
-    (then (byteFrom xs place) (λ n next. accepted (contextNumber (lowBits first) n) next)))
+numberFrom first xs place = then (numberTold first xs place) (λ n next. accepted (numbered first n) next)
 
 -- the value that the low bits tell: 0 to 4 are the value; 5 says that a byte follows, where 254 means two more bytes, 255 four more, and any other is the value; 6 and 7 give 0
 unfoldable pub tagValueFrom : ℕ → List ℕ → ℕ → Answer ℕ

@@ -15,8 +15,9 @@ ghost use Prim.Native.Nat.{_≤_};
 ghost use lib.ListN.{length};
 ghost use Rattle.types.specs.Tag.{numberOf, tagOf};
 ghost use Rattle.types.specs.Answer.{paperOutcome};
-ghost use Rattle.numbers.specs.Reading.{paperWord};
-ghost use Rattle.tags.specs.Reading.{contextNumber, numberFrom, tagValueFrom, tagAfter, tagFrom, expectedFrom, sameNumber, expectedNumber, expectedValue, paperNumber, paperTag};
+ghost use Rattle.numbers.specs.Reading.{paperByte, paperWord};
+ghost use Rattle.tags.specs.Held.{FieldWide};
+ghost use Rattle.tags.specs.Reading.{numberTold, contextNumber, numbered, numberFrom, tagValueFrom, tagAfter, tagFrom, expectedFrom, sameNumber, expectedNumber, expectedValue, paperNumber, paperTag};
 use numbers::ByteRead;
 use numbers::WordRead;
 use types::ApplicationTagNumber;
@@ -101,28 +102,38 @@ fn tag_after(first: u8, buf: &[u8], place: usize) -> TagRead
     }
 }
 
-// Reads on the class and number that a tag's first byte tells: the number is the byte at this place where it is long.
+// Reads on the class and number that a tag's first byte tells.
 fn number_after(first: u8, buf: &[u8], place: usize) -> NumberRead
     ensures { λ r. ⌜ paperNumber r ≡ numberFrom first (now (buf .entry)) place ⌝ }
 {
-    let field = first / 16;
-    let low = first % 8;
-    if first / 8 % 2 == 0 {
-        return NumberRead::Number(
-            TagNumber::Application(ApplicationTagNumber::named(field)),
-            place,
-        );
+    match number_told(first, buf, place) {
+        ByteRead::Byte(number, next) => NumberRead::Number(numbered(first, number), next),
+        ByteRead::Refused(r) => NumberRead::Refused(r),
     }
-    if field == 15 {
-        return match numbers::read_byte(buf, place) {
-            ByteRead::Byte(number, next) => NumberRead::Number(context_number(low, number), next),
-            ByteRead::Refused(r) => NumberRead::Refused(r),
-        };
-    }
-    NumberRead::Number(context_number(low, field), place)
 }
 
-// The class and number of a tag in context class: low bits 6 open and 7 close a block.
+// Reads on the number that a tag's first byte tells: it is the byte at this place where the first is of context class and its field 15.
+fn number_told(first: u8, buf: &[u8], place: usize) -> ByteRead
+    ensures { λ r. ⌜ paperByte r ≡ numberTold first (now (buf .entry)) place ⌝ }
+{
+    if first < 248 {
+        return ByteRead::Byte(first / 16, place);
+    }
+    numbers::read_byte(buf, place)
+}
+
+// What has a number, by the tag's first byte.
+fn numbered(first: u8, number: u8) -> TagNumber
+    requires { ⌜ FieldWide first number ⌝ }
+    ensures { λ r. ⌜ numberOf r ≡ numbered first number ⌝ }
+{
+    if first / 8 % 2 == 0 {
+        return TagNumber::Application(ApplicationTagNumber::named(number));
+    }
+    context_number(first % 8, number)
+}
+
+// What has a number of context class, by the low bits: 6 open and 7 close a block.
 fn context_number(low: u8, number: u8) -> TagNumber
     ensures { λ r. ⌜ numberOf r ≡ contextNumber low number ⌝ }
 {
@@ -151,13 +162,13 @@ fn value_after(low: u8, buf: &[u8], place: usize) -> WordRead
     }
     let value = buf[place];
     let next = place + 1;
+    if value < 254 {
+        return WordRead::Word(value as u32, next);
+    }
     if value == 254 {
         return numbers::read_two_bytes(buf, next);
     }
-    if value == 255 {
-        return numbers::read_four_bytes(buf, next);
-    }
-    WordRead::Word(value as u32, next)
+    numbers::read_four_bytes(buf, next)
 }
 
 // Whether two tags have one class and number.

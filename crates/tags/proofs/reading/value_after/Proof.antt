@@ -2,7 +2,7 @@
 -- Assumes nothing.
 use borrow.Author.Needs.{needs}
 use mathlib.Core.Path.{_≡_}
-use Prim.Native.Nat.{_+_}
+use Prim.Native.Nat.{ℕ, _+_}
 use lib.ListN.{length, getD}
 use native.Mathlib.Omega.{arith}
 use borrow.Author.Tests.{lt-ltb, le-ltb, le-leb, lt-leb, eq-eqb, ne-eqb}
@@ -35,26 +35,34 @@ byte : (c : tie.After-shared-slice-known2) → (let a = c .before .before .befor
 unfolding byteFrom
 byte c = let a = c .before .before .before .before .before .args in let p = c .before .before .before .before .before .pre in simp (le-ltb 65535 (length (a .buf .now)) (p .0), le-ltb (length (a .buf .now)) (a .place) (p .1), lt-leb _ _ (c .before .if3 .left))
 
-read-two-bytes-requires : tie.Need-read-two-bytes-requires
-read-two-bytes-requires c κs = search needs
+cast-t13 : tie.Need-cast-t13
+cast-t13 c = omega arith
 
 returns-4 : tie.Need-returns-4
 unfolding tagValueFrom
-returns-4 c = simp (le-ltb _ _ (c .before .before .before .before .before .if1 .left), eq-eqb _ _ (c .before .before .before .before .if2 .left), byte (c .before .before), eq-eqb _ _ (c .before .if4 .taken)) (c .read-two-bytes .ensures)
+returns-4 c =
+    let a = c .before .before .before .before .before .before .args in
+    let b : ℕ = getD (a .buf .now) (a .place) 0 in
+    simp (le-ltb _ _ (c .before .before .before .before .if1 .left), eq-eqb _ _ (c .before .before .before .if2 .left), byte (c .before), ne-eqb b 254 (omega arith), ne-eqb b 255 (omega arith))
+
+read-two-bytes-requires : tie.Need-read-two-bytes-requires
+read-two-bytes-requires c κs = search needs
+
+returns-5 : tie.Need-returns-5
+unfolding tagValueFrom
+returns-5 c = simp (le-ltb _ _ (c .before .before .before .before .before .before .if1 .left), eq-eqb _ _ (c .before .before .before .before .before .if2 .left), byte (c .before .before .before), eq-eqb _ _ (c .before .if5 .taken)) (c .read-two-bytes .ensures)
 
 read-four-bytes-requires : tie.Need-read-four-bytes-requires
 read-four-bytes-requires c κs = search needs
 
-returns-5 : tie.Need-returns-5
-unfolding tagValueFrom
-returns-5 c = simp (le-ltb _ _ (c .before .before .before .before .before .before .if1 .left), eq-eqb _ _ (c .before .before .before .before .before .if2 .left), byte (c .before .before .before), ne-eqb _ _ (c .before .before .if4 .left), eq-eqb _ _ (c .before .if5 .taken)) (c .read-four-bytes .ensures)
-
-cast-t13 : tie.Need-cast-t13
-cast-t13 c = omega (arith, c .before .before .shared-slice-known2 .given (c .before .before .before .before .before .before .before .args .place))
-
+-- what is left of a byte is 255
 returns-6 : tie.Need-returns-6
 unfolding tagValueFrom
-returns-6 c = simp (le-ltb _ _ (c .before .before .before .before .before .if1 .left), eq-eqb _ _ (c .before .before .before .before .if2 .left), byte (c .before .before), ne-eqb _ _ (c .before .if4 .left), ne-eqb _ _ (c .if5 .left))
+returns-6 c =
+    let a = c .before .before .before .before .before .before .before .before .args in
+    let b : ℕ = getD (a .buf .now) (a .place) 0 in
+    let h : b ≡ 255 = omega (arith, c .before .before .before .shared-slice-known2 .given (a .place)) in
+    simp (le-ltb _ _ (c .before .before .before .before .before .before .if1 .left), eq-eqb _ _ (c .before .before .before .before .before .if2 .left), byte (c .before .before .before), h) (c .read-four-bytes .ensures)
 
 pub value-after-spec : {M : Type 1} → statement M
-value-after-spec = tie.close (tie.spec returns returns-2 returns-3 shared-slice-read-value add-next read-two-bytes-requires returns-4 read-four-bytes-requires returns-5 cast-t13 returns-6)
+value-after-spec = tie.close (tie.spec returns returns-2 returns-3 shared-slice-read-value add-next cast-t13 returns-4 read-two-bytes-requires returns-5 read-four-bytes-requires returns-6)
