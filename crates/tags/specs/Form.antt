@@ -24,7 +24,7 @@ zeroLow (closing n) = 7
 abbrev pub firstLow : List ℕ → ℕ
 firstLow bytes = lowBits (getD bytes 0 0)
 
--- of all bytes that stand for a tag none is shorter, and no other is as short; but a value of 0, which low bits 6 and 7 may tell too, is told by the low bits above
+-- of all bytes that stand for a tag none is shorter, and no other is as short; but a value of 0, which in application class low bits 6 and 7 may tell too, is told by the low bits above
 pub record Form (t : Tag) (bytes : List ℕ) : Type 0 where
   pub stands : StandsFor t bytes
   pub least : (other : List ℕ) → StandsFor t other → length bytes ≤ length other

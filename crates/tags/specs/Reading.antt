@@ -22,14 +22,14 @@ numberTold first xs place =
     (if (ltb (numberField first) 15) (accepted (numberField first) place)
     (byteFrom xs place))
 
--- what has a number of context class, by the low bits: 6 open and 7 close a block, and any other are an ordinary tag's (20.2.1.3.2)
+-- the class and number of a tag in context class: low bits 6 open and 7 close a block, and any other are an ordinary tag's (20.2.1.3.2)
 abbrev pub contextNumber : (low n : ℕ) → Number
 contextNumber low n =
     if (eqb low 6) (opening n)
     (if (eqb low 7) (closing n)
     (context n))
 
--- what has a number, by the first byte
+-- the class and number of a tag whose first byte and number are known (20.2.1.1)
 abbrev pub numbered : (first n : ℕ) → Number
 numbered first n = if (eqb (classBit first) 0) (application n) (contextNumber (lowBits first) n)
 

@@ -122,7 +122,7 @@ fn number_told(first: u8, buf: &[u8], place: usize) -> ByteRead
     numbers::read_byte(buf, place)
 }
 
-// What has a number, by the tag's first byte.
+// The class and number of a tag whose first byte and number are known.
 fn numbered(first: u8, number: u8) -> TagNumber
     requires { ⌜ FieldWide first number ⌝ }
     ensures { λ r. ⌜ numberOf r ≡ numbered first number ⌝ }
@@ -133,7 +133,7 @@ fn numbered(first: u8, number: u8) -> TagNumber
     context_number(first % 8, number)
 }
 
-// What has a number of context class, by the low bits: 6 open and 7 close a block.
+// The class and number of a tag in context class: low bits 6 open and 7 close a block.
 fn context_number(low: u8, number: u8) -> TagNumber
     ensures { λ r. ⌜ numberOf r ≡ contextNumber low number ⌝ }
 {

@@ -1,4 +1,4 @@
--- `tags::number_after` meets its contract: what `number_told` answered says at each return which case of `numberFrom` holds, and `numbered` what has that number.
+-- `tags::number_after` meets its contract: what `number_told` answered says at each return which case of `numberFrom` holds; a number of application class is a field, as `numbered` asks.
 -- Assumes nothing.
 use borrow.Author.Needs.{needs}
 use mathlib.Core.Path.{sym, ap, _∙_}
