@@ -14,7 +14,7 @@ use Rattle.tags.proofs.Back.{Telling, field-telling, second-telling}
 abbrev pub Forms : (low n : ℕ) → List ℕ → Type 0
 Forms low n bytes = ((n < 15) × (bytes ≡ (n * 16 + 8 + low) ∷ [])) ⊎ (bytes ≡ (248 + low) ∷ n ∷ [])
 
-told-forms : (first : ℕ) {n : ℕ} {number : List ℕ} (low : ℕ) → classBit first ≡ 1 → TellsNumber (numberField first) n number → lowBits first ≡ low → first < 256 → Forms low n (first ∷ number)
+pub told-forms : (first : ℕ) {n : ℕ} {number : List ℕ} (low : ℕ) → classBit first ≡ 1 → TellsNumber (numberField first) n number → lowBits first ≡ low → first < 256 → Forms low n (first ∷ number)
 told-forms first low c (inField m) h b = let e : first ≡ numberField first * 16 + 8 + low = omega arith in inl (m, ap (λ (x : ℕ). x ∷ []) e)
 told-forms first low c (inSecond {n = n} m) h b = let e : first ≡ 248 + low = omega arith in inr (ap (λ (x : ℕ). x ∷ n ∷ []) e)
 

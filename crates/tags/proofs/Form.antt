@@ -1,7 +1,7 @@
 -- A tag is written in its form: in the fewest bytes that stand for it, and in no others.
 -- Assumes nothing.
 use mathlib.Core.Path.{_≡_, refl, _∙_, ap, ap₂, sym, subst}
-use mathlib.Core.Logic.{_↔_}
+use mathlib.Core.Logic.{inl, inr, _↔_}
 use Prim.Native.Nat.{ℕ, zero, suc, _+_, _*_, _<_, _≤_}
 use native.Mathlib.Omega.{arith}
 use mathlib.Core.List.{List, [], _∷_, _++_, append-nil}
@@ -19,6 +19,7 @@ use Rattle.tags.proofs.Range.{InRange, number-range, in-range}
 use Rattle.tags.proofs.Held.{context-short}
 use Rattle.tags.proofs.BySize.{split, to-four, from-five, low-lt, few, alone, in-two, in-four, most-one, most-three, most-five}
 use Rattle.tags.proofs.Back.{header-is-tag}
+use Rattle.tags.proofs.Blocks.{Forms, told-forms}
 
 two-below : (bytes : List ℕ) → length bytes ≡ 2 → Bytes (254 ∷ bytes) → unsignedValue bytes < 65536
 two-below bytes h b = rw h at (value-lt bytes (λ i. b (suc i)))
@@ -68,12 +69,11 @@ number-least (inSecond {n = n} m) low = omega (arith, context-short n low)
 
 -- and no others as few
 number-only : (first : ℕ) {n : ℕ} {number : List ℕ} → classBit first ≡ 1 → TellsNumber (numberField first) n number → first < 256 → (low : ℕ) → lowBits first ≡ low → suc (length number) ≡ length (contextBytes n low) → first ∷ number ≡ contextBytes n low
-number-only first c (inField m) h low k l =
-    let e : first ≡ numberField first * 16 + 8 + low = omega (arith, first-is first) in
-    simp (lt-ltb (numberField first) 15 m) (ap (λ (x : ℕ). x ∷ []) e)
-number-only first c (inSecond {n = n} m) h low k l =
-    let e : first ≡ 248 + low = omega (arith, first-is first) in
-    split n 15 (λ j. absurd (omega (arith, simp (lt-ltb n 15 j) at l))) (λ j. simp (le-ltb n 15 j) (ap (λ (x : ℕ). x ∷ n ∷ []) e))
+number-only first {n} {number} c m h low k l = by (told-forms first low c m k h)
+  where
+    by : Forms low n (first ∷ number) → first ∷ number ≡ contextBytes n low
+    by (inl (j, e)) = simp (lt-ltb n 15 j) e
+    by (inr e) = split n 15 (λ j. absurd (omega (arith, ap length e, simp (lt-ltb n 15 j) at l))) (λ j. simp (le-ltb n 15 j) e)
 
 -- no fewer bytes stand for a tag
 least : {t : Tag} {other : List ℕ} → IsTag t other → Bytes other → length (numberBytes (t .number) (t .value)) ≤ length other
