@@ -26,3 +26,7 @@ number-above-0 (r.TooManyBlocksOpen c) = lit< tt
 number-above-0 (r.OtherPduType c) = lit< tt
 number-above-0 r.EnumeratedTooLarge = lit< tt
 number-above-0 r.LineNotHexadecimal = lit< tt
+number-above-0 r.WindowNotAllowed = lit< tt
+number-above-0 r.OtherIdOrChoice = lit< tt
+number-above-0 r.OtherSequence = lit< tt
+number-above-0 r.AlreadyFinished = lit< tt

@@ -99,7 +99,9 @@ byAmount k c =
     (if (eqb k 7) (r.LengthNotAllowed c) (if (eqb k 9) (r.OtherCharacterSet c) (if (eqb k 10) (r.TextNotUtf8 c)
     (if (eqb k 11) (r.ServiceChoiceTooLarge c) (if (eqb k 12) r.CannotBeWritten (if (eqb k 13) (r.NoRoom c)
     (if (eqb k 14) (r.AllowanceSpent c) (if (eqb k 15) (r.ClosingWithoutOpening c) (if (eqb k 16) (r.TooManyBlocksOpen c)
-    (if (eqb k 17) (r.OtherPduType c) (if (eqb k 18) r.EnumeratedTooLarge r.LineNotHexadecimal)))))))))))))
+    (if (eqb k 17) (r.OtherPduType c) (if (eqb k 18) r.EnumeratedTooLarge
+    (if (eqb k 19) r.LineNotHexadecimal (if (eqb k 24) r.WindowNotAllowed (if (eqb k 25) r.OtherIdOrChoice
+    (if (eqb k 26) r.OtherSequence r.AlreadyFinished)))))))))))))))))
 
 abbrev byTag : ℕ → Tag → Refusal
 byTag k t =
@@ -133,6 +135,10 @@ refusal-back (r.TooManyBlocksOpen c) = refl
 refusal-back (r.OtherPduType c) = refl
 refusal-back r.EnumeratedTooLarge = refl
 refusal-back r.LineNotHexadecimal = refl
+refusal-back r.WindowNotAllowed = refl
+refusal-back r.OtherIdOrChoice = refl
+refusal-back r.OtherSequence = refl
+refusal-back r.AlreadyFinished = refl
 
 -- no two refusals are the same on paper
 pub single-refusal : (x y : Refusal) → table x ≡ table y → x ≡ y

@@ -1,4 +1,4 @@
--- Document 01, "Refusal numbers": a row for each case, with its number and what it carries.
+-- Document 01, "Refusal numbers", and from 24 on document 02, K9: a row for each case, with its number and what it carries.
 -- Assumes nothing.
 use Prim.Native.Nat.{ℕ}
 use Rattle.types.specs.Tag.{Tag, tagOf}
@@ -41,6 +41,10 @@ table (r.TooManyBlocksOpen place) = row 16 (amount place)
 table (r.OtherPduType control) = row 17 (amount control)
 table r.EnumeratedTooLarge = row 18 (amount 0)
 table r.LineNotHexadecimal = row 19 (amount 0)
+table r.WindowNotAllowed = row 24 (amount 0)
+table r.OtherIdOrChoice = row 25 (amount 0)
+table r.OtherSequence = row 26 (amount 0)
+table r.AlreadyFinished = row 27 (amount 0)
 
 -- the program's enum for what a refusal carries
 abbrev pub carriedOf : program.Carried → Carried

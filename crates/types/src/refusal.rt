@@ -4,7 +4,7 @@ ghost use Rattle.types.specs.Refusal.{table, paperRow};
 use crate::row::RefusalRow;
 use crate::tag::Tag;
 
-// Document 01's refusals, in its table's order: when each is given, and what it carries.
+// The refusals of documents 01 and 02, in the order of their numbers: when each is given, and what it carries.
 pub enum Refusal {
     // The buffer, or the lent content, is longer than 65,535 bytes: its length.
     BufferTooLong(usize),
@@ -44,10 +44,18 @@ pub enum Refusal {
     EnumeratedTooLarge,
     // The program's line has another character, an odd number of digits or too many: 0.
     LineNotHexadecimal,
+    // The window of a segment is 0 or above 127: 0.
+    WindowNotAllowed,
+    // The segment has another invoke id or service choice than the first one: 0.
+    OtherIdOrChoice,
+    // The segment has another sequence number than the one due: 0.
+    OtherSequence,
+    // The last segment was taken already: 0.
+    AlreadyFinished,
 }
 
 impl Refusal {
-    // The refusal's number in document 01, and what it carries: 0 where the table says 0.
+    // The refusal's number, and what it carries: 0 where the table says 0.
     pub fn row(self) -> RefusalRow
         ensures { λ r. ⌜ paperRow r ≡ table self ⌝ }
     {
@@ -72,6 +80,10 @@ impl Refusal {
             Refusal::OtherPduType(control) => RefusalRow::of_amount(17, control as usize),
             Refusal::EnumeratedTooLarge => RefusalRow::of_amount(18, 0),
             Refusal::LineNotHexadecimal => RefusalRow::of_amount(19, 0),
+            Refusal::WindowNotAllowed => RefusalRow::of_amount(24, 0),
+            Refusal::OtherIdOrChoice => RefusalRow::of_amount(25, 0),
+            Refusal::OtherSequence => RefusalRow::of_amount(26, 0),
+            Refusal::AlreadyFinished => RefusalRow::of_amount(27, 0),
         }
     }
 }

@@ -130,6 +130,30 @@ enum-told-3 c = search needs
 of-amount-requires-15 : tie.Need-of-amount-requires-15
 of-amount-requires-15 c κs = search needs
 
+enum-told-4 : tie.Need-enum-told-4
+enum-told-4 c = search needs
+
+of-amount-requires-16 : tie.Need-of-amount-requires-16
+of-amount-requires-16 c κs = search needs
+
+enum-told-5 : tie.Need-enum-told-5
+enum-told-5 c = search needs
+
+of-amount-requires-17 : tie.Need-of-amount-requires-17
+of-amount-requires-17 c κs = search needs
+
+enum-told-6 : tie.Need-enum-told-6
+enum-told-6 c = search needs
+
+of-amount-requires-18 : tie.Need-of-amount-requires-18
+of-amount-requires-18 c κs = search needs
+
+enum-told-7 : tie.Need-enum-told-7
+enum-told-7 c = search needs
+
+of-amount-requires-19 : tie.Need-of-amount-requires-19
+of-amount-requires-19 c κs = search needs
+
 returns : tie.Need-returns
 returns c = simp (c .of-amount .ensures, c .before .before .self .given .1)
 
@@ -187,6 +211,18 @@ returns-18 c = simp (c .of-amount14 .ensures, c .before .enum-told2 .given .1)
 returns-19 : tie.Need-returns-19
 returns-19 c = simp (c .of-amount15 .ensures, c .before .enum-told3 .given .1)
 
+returns-20 : tie.Need-returns-20
+returns-20 c = simp (c .of-amount16 .ensures, c .before .enum-told4 .given .1)
+
+returns-21 : tie.Need-returns-21
+returns-21 c = simp (c .of-amount17 .ensures, c .before .enum-told5 .given .1)
+
+returns-22 : tie.Need-returns-22
+returns-22 c = simp (c .of-amount18 .ensures, c .before .enum-told6 .given .1)
+
+returns-23 : tie.Need-returns-23
+returns-23 c = simp (c .of-amount19 .ensures, c .before .enum-told7 .given .1)
+
 pub row-spec : {M : Type 1} → statement M
 row-spec =
     tie.close
@@ -233,6 +269,14 @@ row-spec =
     of-amount-requires-14
     enum-told-3
     of-amount-requires-15
+    enum-told-4
+    of-amount-requires-16
+    enum-told-5
+    of-amount-requires-17
+    enum-told-6
+    of-amount-requires-18
+    enum-told-7
+    of-amount-requires-19
     returns
     returns-2
     returns-3
@@ -251,4 +295,8 @@ row-spec =
     returns-16
     returns-17
     returns-18
-    returns-19)
+    returns-19
+    returns-20
+    returns-21
+    returns-22
+    returns-23)
