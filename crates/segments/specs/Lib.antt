@@ -1,0 +1,5 @@
+pub mod State
+pub mod Segment
+pub mod Taking
+pub mod Accepts
+pub mod Calls
