@@ -1,1 +1,4 @@
 pub mod Tested
+pub mod Exactly
+pub mod Untouched
+pub mod Joined

@@ -45,14 +45,13 @@ pub record GoesOn (s : State) (g : Segment) : Type 0 where
   pub same : s .begun ≡ true → (g .id ≡ s .id) × (g .service ≡ s .choice)
   pub due : g .sequence ≡ s .due
 
--- a frame that is to be accepted: neither it nor the buffer is too long (else 1), it is a segment (3, 17, 11, 24), which goes on from the state (27, 25, 26), and there is room for its part behind the bytes held (13)
-pub record Acceptable (s : State) (f xs : List ℕ) : Type 0 where
+-- a frame that is to be accepted as this segment: neither it nor the buffer is too long (else 1), it is a segment (3, 17, 11, 24), which goes on from the state (27, 25, 26), and there is room for its part behind the bytes held (13)
+pub record Acceptable (s : State) (f xs : List ℕ) (g : Segment) : Type 0 where
   pub short : length xs ≤ 65535
   pub frame : length f ≤ 65535
-  pub segment : Segment
-  pub isSegment : IsSegment segment f
-  pub goesOn : GoesOn s segment
-  pub room : s .held + length (segment .part) ≤ length xs
+  pub isSegment : IsSegment g f
+  pub goesOn : GoesOn s g
+  pub room : s .held + length (g .part) ≤ length xs
 
 -- the state then: the next sequence number is due, after 255 it is 0, and the part is held too
 abbrev pub stateAfter : State → Segment → State

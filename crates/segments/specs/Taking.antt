@@ -46,12 +46,13 @@ asDue s f =
     (if (not (eqb (sequenceOf f) (s .due))) (stopped 26 (amount 0))
     passed))))
 
--- the answer to a frame that is accepted, with so many bytes held then: the sequence number due is the next one, and after 255 comes 0
+-- the state after a frame that is accepted, with so many bytes held: the sequence number due is the next one, and after 255 comes 0
+abbrev pub stateThen : List ℕ → (held : ℕ) → State
+stateThen f held = state true (not (moreFollow f)) (idOf f) (choiceOf f) ((sequenceOf f + 1) % 256) held
+
+-- and the answer
 unfoldable pub accepting : List ℕ → (held : ℕ) → Taken
-accepting f held =
-    if (moreFollow f)
-    (more (state true false (idOf f) (choiceOf f) ((sequenceOf f + 1) % 256) held))
-    (finished (state true true (idOf f) (choiceOf f) ((sequenceOf f + 1) % 256) held))
+accepting f held = if (moreFollow f) (more (stateThen f held)) (finished (stateThen f held))
 
 -- the part of the frame that is due put behind the bytes held; where the buffer has no room for it, 13 carries its length
 unfoldable pub joining : State → List ℕ → List ℕ → After

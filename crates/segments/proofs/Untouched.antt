@@ -1,0 +1,36 @@
+-- What a call leaves alone: every byte where the frame is refused, and every byte but those of its part where it is accepted.
+-- Assumes nothing.
+use mathlib.Core.Path.{_≡_, refl}
+use Prim.Native.Nat.{ℕ, _+_}
+use native.Mathlib.Omega.{arith}
+use mathlib.Core.Bool.{Bool, true, false}
+use mathlib.Core.List.{List}
+use lib.ListN.{length}
+use Rattle.types.specs.Choice.{if}
+use Rattle.types.specs.Refusal.{Carried}
+use Rattle.types.specs.Writing.{over}
+use Rattle.types.proofs.Choices.{either}
+use Rattle.numbers.proofs.Wrote.{Wrote}
+use Rattle.numbers.proofs.Untouched.{Around, around}
+use Rattle.segments.specs.State.{State}
+use Rattle.segments.specs.Segment.{partOf}
+use Rattle.segments.specs.Taking.{Taken, more, finished, refused, After, takes}
+use Rattle.segments.specs.Accepts.{stateAfter}
+use Rattle.segments.proofs.Exactly.{segmentIn, taken-cases}
+
+module _ (s : State) (f xs : List ℕ) where
+  -- a refused frame changes no byte
+  pub refused-untouched : (n : ℕ) (c : Carried) → takes s f xs .answer ≡ refused n c → takes s f xs .buffer ≡ xs
+  refused-untouched n c =
+      taken-cases s f xs (λ a. a .answer ≡ refused n c → a .buffer ≡ xs)
+      (λ m d e. refl)
+      (λ a. either (λ (t : Taken). t ≡ refused n c → over xs (s .held) (partOf f) ≡ xs) (segmentIn f .follow)
+      (λ b e. let z : _≡_ {A = ℕ} 0 1 = cc in absurd (omega arith))
+      (λ b e. let z : _≡_ {A = ℕ} 0 1 = cc in absurd (omega arith)))
+
+  -- no call changes a byte before the place where the part goes, nor one from behind it on
+  pub outside-untouched : Around xs (s .held) (s .held + length (partOf f)) (takes s f xs .buffer)
+  outside-untouched =
+      taken-cases s f xs (λ a. Around xs (s .held) (s .held + length (partOf f)) (a .buffer))
+      (λ n c. (refl, refl))
+      (λ a. around (partOf f) xs (s .held) (s .held + length (partOf f)) _ (record { small = a .short; room = a .room; ends = refl; buffer = refl }))
