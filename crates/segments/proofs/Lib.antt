@@ -2,3 +2,5 @@ pub mod Tested
 pub mod Exactly
 pub mod Untouched
 pub mod Joined
+pub mod Single
+pub mod Examples
