@@ -21,5 +21,6 @@ fn ask(request: &Request) -> Option<String> {
     match request {
         Request::Read { what, place, buf } => reading::ask(what, buf, *place),
         Request::Write { what, place, capacity } => writing::ask(what, *place, *capacity),
+        Request::Segments { .. } => None,
     }
 }

@@ -2,9 +2,10 @@
 mod answering;
 mod parse;
 mod request;
+mod scripts;
 mod words;
 
 pub use answering::answer_all;
 pub use parse::parse;
-pub use request::{Class, Header, Read, Request, Tag, TagName, Value, Write};
+pub use request::{Class, Header, Read, Request, SegmentsCall, Tag, TagName, Value, Write};
 pub use words::{hex, put_hex, Words};

@@ -1,20 +1,18 @@
 // A request read from its line; none where the answer is `unknown`.
 use crate::request::{Class, Header, Read, Request, Tag, TagName, Value, Write};
+use crate::scripts::script;
 use crate::words::Words;
-
-// The most bytes a writing request may ask room for.
-const CAPACITY: usize = 70_000;
 
 pub fn parse(line: &str) -> Option<Request> {
     let mut words = Words::of(line);
     let name = words.word()?;
+    if let Some(script) = script(name) {
+        return script(&mut words);
+    }
     let request = match name.strip_prefix('w') {
         Some(what) if what != "alk" => {
             let what = write(what, &mut words)?;
-            let (place, capacity) = (words.number()?, words.number()?);
-            if capacity > CAPACITY {
-                return None;
-            }
+            let (place, capacity) = (words.number()?, words.capacity()?);
             Request::Write { what, place, capacity }
         }
         _ => {

@@ -111,8 +111,16 @@ pub enum Write {
     Header(Header),
 }
 
+// A call of a script of segments: a frame taken, or so many bytes of the buffer lent from now on.
+#[derive(Debug, Clone, PartialEq, Eq)]
+pub enum SegmentsCall {
+    Take(Vec<u8>),
+    Lend(usize),
+}
+
 #[derive(Debug, Clone, PartialEq, Eq)]
 pub enum Request {
     Read { what: Read, place: usize, buf: Vec<u8> },
     Write { what: Write, place: usize, capacity: usize },
+    Segments { capacity: usize, calls: Vec<SegmentsCall> },
 }

@@ -1,6 +1,9 @@
 // The words of a line: numbers and bytes.
 use std::str::FromStr;
 
+// The most bytes that a request may ask room for.
+const MOST_ROOM: usize = 70_000;
+
 // The words of a request, taken one after the other.
 pub struct Words<'a>(std::str::Split<'a, char>);
 
@@ -21,6 +24,11 @@ impl<'a> Words<'a> {
             return None;
         }
         word.parse().ok()
+    }
+
+    // The length of a buffer to be written.
+    pub fn capacity(&mut self) -> Option<usize> {
+        self.number().filter(|capacity| *capacity <= MOST_ROOM)
     }
 
     pub fn bytes(&mut self) -> Option<Vec<u8>> {

@@ -4,6 +4,7 @@ use crate::headers::header;
 use crate::integers::{signed, unsigned};
 use crate::reading::{byte, open, slice};
 use crate::refusal::Refusal;
+use crate::segments::script;
 use crate::tags::{expected, expected_value, tag, LongBlockTags};
 use crate::utf8;
 use crate::values::value;
@@ -21,6 +22,7 @@ pub fn answer_reading(long: LongBlockTags, request: &Request) -> String {
     match request {
         Request::Read { what, place, buf } => read_answer(what, long, buf, *place),
         Request::Write { what, place, capacity } => write_answer(what, *place, *capacity),
+        Request::Segments { capacity, calls } => script(*capacity, calls),
     }
 }
 

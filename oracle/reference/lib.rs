@@ -1,9 +1,10 @@
-// Document 01 and request K1 of 02 a second time, written from these and from docs/DECISIONS.md alone: what the port must answer to each request.
+// Document 01 and requests K1 and K9 of 02 a second time, written from these and from docs/DECISIONS.md alone: what the port must answer to each request.
 pub mod bodies;
 pub mod headers;
 pub mod integers;
 pub mod reading;
 pub mod refusal;
+pub mod segments;
 pub mod tags;
 pub mod utf8;
 pub mod values;

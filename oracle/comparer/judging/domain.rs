@@ -29,6 +29,7 @@ pub fn outside(request: &Request, ordinary: &str) -> Option<Outside> {
             let longest = (*capacity).max(lent(what).len());
             ends(longest, *place, *capacity).or_else(|| write(what))
         }
+        Request::Segments { .. } => answering("the Rust joins no segments", "none"),
     }
 }
 

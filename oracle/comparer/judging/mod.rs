@@ -51,6 +51,7 @@ pub fn judge(request: &Request, rust: &str, port: &str, reference: &str) -> Verd
     let rows = match request {
         Request::Read { what, place, buf } => reads::rust(what, buf, *place, ordinary),
         Request::Write { what, place, capacity } => writes::rust(what, *place, *capacity, port),
+        Request::Segments { .. } => None,
     };
     match rows {
         Some(by_rows) if by_rows.answer != rust => must(&by_rows.answer),
