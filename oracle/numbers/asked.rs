@@ -1,18 +1,19 @@
 // Requests in numbers: the function's name, then its arguments in the order of the C header.
 use protocol::{put_hex, Class, Header, Read, Request, TagName, Value, Write};
 
-// The request; a check of UTF-8 that was refused 1 or 2 is a read of no bytes there, as the check takes a whole text and no place.
-pub fn asked(request: &Request, answer: &str) -> String {
-    match request {
+// The request, none for a script; a check of UTF-8 that was refused 1 or 2 is a read of no bytes there, as the check takes a whole text and no place.
+pub fn asked(request: &Request, answer: &str) -> Option<String> {
+    Some(match request {
         Request::Read { what: Read::Utf8, place, buf } => {
             if answer.starts_with("refused 1 ") || answer.starts_with("refused 2 ") {
-                return format!("read_slice 0 {} {place}", hex(buf));
+                return Some(format!("read_slice 0 {} {place}", hex(buf)));
             }
             format!("check_utf8 {}", hex(&buf[*place..]))
         }
         Request::Read { what, place, buf } => format!("{} {} {place}", read(what), hex(buf)),
         Request::Write { what, place, capacity } => format!("{} @{capacity} {place}", write(what)),
-    }
+        Request::Segments { .. } => return None,
+    })
 }
 
 pub fn hex(bytes: &[u8]) -> String {

@@ -1,13 +1,15 @@
 // Turns requests and answers in words into requests and answers in numbers, as the program replay reads and prints them.
 //   numbers list FOLDER              the stored list, from its sources in FOLDER
 //   numbers turn REQUESTS ANSWERS    any requests in words with their answers, without those that are answered `unknown`
-// A line of each request and a line of its answer are printed, one after the other. The answers are those that were given: nothing is asked of any program.
+// A line of each request and a line of its answer are printed, one after the other; a script has two lines for each frame. The answers are those that were given: nothing is asked of any program.
 mod asked;
 mod numbers;
+mod segments;
 mod stored;
 mod told;
 mod told_value;
 
+use protocol::{Request, LONGEST_LINE};
 use std::io::{self, Write};
 use std::process::ExitCode;
 
@@ -43,15 +45,28 @@ fn print(rows: &[Row]) -> io::Result<()> {
 }
 
 // A request in words and its answer in words, in numbers; an error where one of them cannot be read.
-fn turned(request: &str, answer: &str) -> Result<Row, String> {
+fn turned(request: &str, answer: &str) -> Result<Vec<Row>, String> {
     let read = protocol::parse(request).ok_or_else(|| format!("no request: {request}"))?;
-    let told =
-        told::told(&read, answer).ok_or_else(|| format!("no answer: {request}: {answer}"))?;
-    Ok(Row { asked: asked::asked(&read, answer), told })
+    let rows = match &read {
+        Request::Segments { capacity, calls } => segments::rows(*capacity, calls, answer),
+        _ => one_row(&read, answer).map(|row| vec![row]),
+    };
+    rows.ok_or_else(|| format!("no answer: {request}: {answer}"))
 }
 
+// The row of a request that is no script.
+fn one_row(request: &Request, answer: &str) -> Option<Row> {
+    Some(Row { asked: asked::asked(request, answer)?, told: told::told(request, answer)? })
+}
+
+// The rows of two files, without those that a script makes too long for a line: a long frame beside a long buffer.
 fn turned_files(requests: &str, answers: &str) -> Result<Vec<Row>, String> {
-    let pairs = stored::pairs(requests, answers)?;
-    let known = pairs.iter().filter(|(_, answer)| answer != "unknown");
-    known.map(|(request, answer)| turned(request, answer)).collect()
+    let mut rows = Vec::new();
+    for (request, answer) in stored::pairs(requests, answers)? {
+        if answer != "unknown" {
+            rows.extend(turned(&request, &answer)?);
+        }
+    }
+    rows.retain(|row| row.asked.len() <= LONGEST_LINE);
+    Ok(rows)
 }

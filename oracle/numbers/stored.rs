@@ -38,7 +38,7 @@ fn requests(requests: &str, answers: &str, by_hand: &str) -> Result<Vec<Row>, St
                 rows.push(Row { asked: asked.clone(), told: told.clone() });
                 taken += 1;
             }
-            _ => rows.push(turned(&request, &answer)?),
+            _ => rows.extend(turned(&request, &answer)?),
         }
     }
     match by_hand.get(taken) {
@@ -80,9 +80,10 @@ fn vectors(path: &str) -> Result<Vec<Row>, String> {
 
 // Examples, a line each: the request in words, then its answer, in which brackets stand around what was not written by hand.
 fn edges(path: &str) -> Result<Vec<Row>, String> {
-    let row = |line: &str| {
+    let mut rows = Vec::new();
+    for line in text(path)?.lines() {
         let (request, answer) = line.split_once('|').ok_or(format!("no example: {line}"))?;
-        turned(request, &answer.replace(['[', ']'], ""))
-    };
-    text(path)?.lines().map(row).collect()
+        rows.extend(turned(request, &answer.replace(['[', ']'], ""))?);
+    }
+    Ok(rows)
 }

@@ -11,6 +11,7 @@ pub fn told(request: &Request, answer: &str) -> Option<String> {
         "ok" => match request {
             Request::Read { what, place, .. } => line(read(what, *place, &mut words)?),
             Request::Write { .. } => line(accepted(words.number()?, &[])),
+            Request::Segments { .. } => return None,
         },
         "absent" => line(absent(request, &mut words)?),
         "refused" => line(refusal(request, &mut words)?),
@@ -29,6 +30,7 @@ pub fn told(request: &Request, answer: &str) -> Option<String> {
             }
             told = format!("{told} {}", hex(&buffer));
         }
+        Request::Segments { .. } => return None,
     }
     words.done()?;
     Some(told)

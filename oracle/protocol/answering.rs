@@ -3,7 +3,7 @@ use crate::{parse, Request};
 use std::io::{self, BufRead, Write};
 
 // The most characters of a line.
-const LONGEST_LINE: usize = 140_000;
+pub const LONGEST_LINE: usize = 140_000;
 
 pub fn answer_all(answer: impl Fn(&Request) -> String) -> io::Result<()> {
     let mut input = io::BufReader::with_capacity(1 << 20, io::stdin().lock());

@@ -5,7 +5,7 @@ mod request;
 mod scripts;
 mod words;
 
-pub use answering::answer_all;
+pub use answering::{answer_all, LONGEST_LINE};
 pub use parse::parse;
 pub use request::{Class, Header, Read, Request, SegmentsCall, Tag, TagName, Value, Write};
 pub use words::{hex, put_hex, Words};
