@@ -14,6 +14,7 @@ mod long;
 mod malformed;
 mod nesting;
 mod random;
+mod segments;
 mod short;
 mod tags;
 mod texts;
@@ -45,12 +46,15 @@ const FAMILIES: &[(u64, Family)] = &[
     (30, Family::Numbered { size: alphabets::BLOCKS_SIZE, nth: alphabets::nth_of_blocks }),
     (20, Family::Numbered { size: alphabets::BLOCK_TAGS_SIZE, nth: alphabets::nth_of_block_tags }),
     (36, Family::Numbered { size: texts::SIZE, nth: texts::nth }),
+    (12, Family::Listed(segments::all)),
+    (1, Family::Listed(segments::all_long)),
     (0, Family::Drawn(items::draw)),
     (0, Family::Drawn(frames::draw)),
     (0, Family::Drawn(drawn::value)),
     (0, Family::Drawn(drawn::bytes)),
     (0, Family::Drawn(drawn::write)),
     (0, Family::Drawn(texts::draw)),
+    (0, Family::Drawn(segments::draw)),
 ];
 
 // Hands every request of a run to a function.
