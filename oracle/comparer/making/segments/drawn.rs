@@ -41,7 +41,10 @@ fn answer(random: &mut Random) -> Vec<Frame> {
         1 => 1 + random.up_to(60),
         _ => 1 + random.up_to(5),
     };
-    let longest = if number < 10 && random.once_in(40) { 300 } else { random.of(&[0, 1, 3, 9]) };
+    let longest = match number {
+        0..=9 if random.once_in(40) => 300,
+        _ => random.of(&[0, 1, 3, 3, 9, 9, 9, 24]),
+    };
     let (id, choice) = (random.byte(), random.below(34) as u8);
     let frame = |place: usize| {
         let more = if place + 1 < number || random.once_in(12) { 4 } else { 0 };
