@@ -15,6 +15,7 @@ struct Script {
     lent: usize,
 }
 
+// What the accepted frames have told so far.
 #[derive(Default)]
 struct State {
     begun: bool,
@@ -84,6 +85,7 @@ impl Script {
 }
 
 impl State {
+    // The eight numbers; the last two say nothing.
     fn numbers(&self) -> [u64; 8] {
         let [begun, finished] = [self.begun, self.finished].map(u64::from);
         let [id, choice, due] = [self.id, self.choice, self.due].map(u64::from);

@@ -3,6 +3,7 @@ use crate::making::segments::frame::{script, take, Frame, LAST, MORE};
 
 const CONTROLS: [u8; 12] = [0x00, 0x08, 0x20, 0x28, 0x30, 0x34, 0x38, 0x3B, 0x3C, 0x3F, 0x48, 0xFF];
 
+// Five scripts for each byte, and one for each length of some headers.
 pub fn all() -> Vec<String> {
     let mut lines = Vec::new();
     for byte in 0..=255 {

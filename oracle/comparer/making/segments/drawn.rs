@@ -10,6 +10,7 @@ const WINDOWS: [u8; 5] = [0, 1, 127, 128, 255];
 const CHOICES: [u8; 5] = [0, 32, 33, 34, 255];
 const CONTROLS: [u8; 10] = [0x00, 0x08, 0x28, 0x30, 0x34, 0x38, 0x3B, 0x3C, 0x3F, 0x48];
 
+// A script that takes a whole answer, mostly in a buffer that it fills or nearly so.
 pub fn draw(random: &mut Random) -> String {
     let frames = answer(random);
     let whole: usize = frames.iter().map(|frame| frame.part.len()).sum();

@@ -16,6 +16,7 @@ const FAULTS: [Fault; 6] = [
 // How much of the buffer is lent, which has room for the part, too little room, and fewer bytes than are held.
 const LENT: [usize; 3] = [6, 4, 1];
 
+// Every set of faults in every room, with a part of three bytes and of none.
 pub fn all() -> Vec<String> {
     let mut lines = Vec::new();
     for set in 0..1 << FAULTS.len() {

@@ -6,6 +6,7 @@ const LONGEST: usize = 65_535;
 const TOO_LONG: usize = 65_536;
 const HEADER: usize = 5;
 
+// Long frames in every room, and each of the other faults beside a frame or a buffer that is too long.
 pub fn all() -> Vec<String> {
     let mut lines = Vec::new();
     for capacity in [0, 4, 65_529, 65_530, LONGEST, TOO_LONG, 65_537, 70_000] {
@@ -16,10 +17,15 @@ pub fn all() -> Vec<String> {
     for capacity in [LONGEST, TOO_LONG, 70_000] {
         lines.push(lent_and_shortened(capacity));
         lines.push(faults_in_long_buffer(capacity));
+        lines.push(second_in_long_buffer(capacity));
     }
     faults_in_long_frames(&mut lines);
     for rest in [4, 5, 6] {
         lines.push(filled(rest));
+    }
+    for part in [0, 1, 2] {
+        lines.push(too_much_lent(part));
+        lines.push(two_halves(part));
     }
     for length in [LONGEST, TOO_LONG, 66_000, 69_000] {
         lines.push(after_the_finish(length));
@@ -60,6 +66,21 @@ fn faults_in_long_buffer(capacity: usize) -> String {
     script(capacity, &calls)
 }
 
+// The faults of a second frame beside such a buffer.
+fn second_in_long_buffer(capacity: usize) -> String {
+    let good = Frame::new(LAST, 1, &[0x02]);
+    let calls = [
+        lend(1),
+        Frame::new(MORE, 0, &[0x01]).take(),
+        lend(capacity),
+        Frame { id: 2, ..good.clone() }.take(),
+        Frame { choice: 13, ..good.clone() }.take(),
+        Frame { sequence: 0, ..good.clone() }.take(),
+        good.take(),
+    ];
+    script(capacity, &calls)
+}
+
 // Every other fault beside a frame that is too long, at first and as a second one.
 fn faults_in_long_frames(lines: &mut Vec<String>) {
     let good = Frame::new(LAST, 1, &vec![0xA5; TOO_LONG - HEADER]);
@@ -83,6 +104,24 @@ fn faults_in_long_frames(lines: &mut Vec<String>) {
 fn filled(rest: usize) -> String {
     let second = Frame::new(LAST, 1, &vec![0x07; rest]).take();
     script(LONGEST, &[long_frame(0, LONGEST), second])
+}
+
+// A buffer filled up to the greatest length, then one byte more of it lent, and a part of so many bytes.
+fn too_much_lent(part: usize) -> String {
+    let second = Frame::new(MORE, 1, &[0x07; HEADER]).take();
+    let third = Frame::new(LAST, 2, &vec![0x08; part]).take();
+    script(TOO_LONG, &[lend(LONGEST), long_frame(0, LONGEST), second, lend(TOO_LONG), third])
+}
+
+// A long part behind a long part, in a buffer that wants one byte, is filled, or has one left.
+fn two_halves(room: usize) -> String {
+    let first = LONGEST / 2;
+    let second = LONGEST - 1 - first;
+    let calls = [
+        Frame::new(MORE, 0, &vec![0x11; first]).take(),
+        Frame::new(LAST, 1, &vec![0x22; second]).take(),
+    ];
+    script(first + second - 1 + room, &calls)
 }
 
 // A finished answer, then a frame of so many bytes and a buffer that is too long.

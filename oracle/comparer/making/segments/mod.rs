@@ -11,6 +11,7 @@ mod wraps;
 pub use drawn::draw;
 pub use long::all as all_long;
 
+// All listed scripts but the long ones.
 pub fn all() -> Vec<String> {
     [bytes::all(), faults::all(), rooms::all(), wraps::all(), unreadable::all()].concat()
 }

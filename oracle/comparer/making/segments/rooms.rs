@@ -3,6 +3,7 @@ use crate::making::segments::frame::{lend, script, Frame, LAST, MORE};
 
 const CAPACITY: usize = 7;
 
+// Second parts behind bytes held, and first parts alone.
 pub fn all() -> Vec<String> {
     let mut lines = Vec::new();
     for held in [0, 1, 2, 4] {
@@ -18,6 +19,7 @@ pub fn all() -> Vec<String> {
     lines
 }
 
+// So many bytes, each another one.
 fn bytes(count: u8) -> Vec<u8> {
     (1..=count).map(|byte| byte * 17).collect()
 }

@@ -1,6 +1,7 @@
 // Scripts that are no request: a call that cannot be read, or something left over.
 use crate::making::segments::frame::script;
 
+// These, and beside them as many calls as a script may have and one more.
 pub fn all() -> Vec<String> {
     let lines = [
         "segments",

@@ -3,6 +3,7 @@ use crate::making::segments::frame::{script, Frame, LAST, MORE};
 
 const NUMBERS: [usize; 11] = [1, 2, 16, 127, 128, 254, 255, 256, 257, 258, 300];
 
+// So many frames with few bytes and many, in room for all of them and one byte less, and wrong frames next to the wrap.
 pub fn all() -> Vec<String> {
     let mut lines = Vec::new();
     for number in NUMBERS {
@@ -20,6 +21,7 @@ pub fn all() -> Vec<String> {
     lines
 }
 
+// One frame of an answer by its number and the last one's.
 fn frame(number: usize, last: usize, every: usize) -> Frame {
     let part = if number % every == 0 { &[number as u8][..] } else { &[] };
     Frame::new(if number == last { LAST } else { MORE }, number as u8, part)
