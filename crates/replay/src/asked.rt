@@ -3,19 +3,19 @@ ghost use Prim.Native.Nat.{_≤_};
 ghost use lib.ListN.{length};
 use crate::bytes::bytes;
 use crate::bytes::lent_bytes;
+use crate::eight::lent_numbers;
 use crate::number::number;
-use crate::words::word_end;
 
-// The numbers of a line in their order, how many bytes stand in each buffer, and where the last word ends.
+// The numbers of a line in their order, those of an array first, how many bytes stand in each buffer, and where the last word ends.
 pub(crate) struct Asked {
-    pub numbers: [u64; 6],
+    pub numbers: [u64; 8],
     pub read: usize,
     pub lent: usize,
     pub end: usize,
 }
 
-// The arguments of a line, whose kinds begin at a place of the table: r is a slice that is read, put into the content,
-// l a buffer lent to be written, and every other one a number.
+// The arguments of a line, whose kinds begin at a place of the table: a, which stands first alone, is an array of eight numbers lent to be written,
+// r a slice that is read, put into the content, l a buffer lent to be written, and every other one a number.
 pub(crate) fn arguments(
     table: &[u8],
     kinds: usize,
@@ -25,12 +25,13 @@ pub(crate) fn arguments(
 ) -> Asked
     ensures { λ r. ⌜ (r .read ≤ length (now (content .exit))) × (r .lent ≤ length (now (buf .exit))) ⌝ }
 {
-    let mut numbers = [0u64; 6];
+    let lent_first = lent_numbers(table, kinds, line);
+    let mut numbers = lent_first.numbers;
     let mut given = 0;
     let mut read = 0;
     let mut lent = 0;
-    let mut end = word_end(line, 0);
-    let mut place = kinds;
+    let mut end = lent_first.end;
+    let mut place = lent_first.kinds;
     while place < table.len() {
         let kind = table[place];
         place += 1;

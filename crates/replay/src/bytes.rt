@@ -70,7 +70,7 @@ pub(crate) fn lent_bytes(line: &[u8], place: usize, buf: &mut [u8]) -> Found
     if sign == NOWHERE {
         return bytes(line, place, buf);
     }
-    let found = digits(70000, line, sign);
+    let found = digits(b' ', 70000, line, sign);
     let count = found.value as usize;
     if buf.len() < count {
         return nothing();

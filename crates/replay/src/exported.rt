@@ -4,7 +4,7 @@ use crate::number::signed;
 use crate::number::word;
 
 // Puts what the exported reader of that number answers into the answer.
-pub(crate) fn read(function: usize, n: [u64; 6], buf: &[u8], answer: &mut [u64; 8]) {
+pub(crate) fn read(function: usize, n: [u64; 8], buf: &[u8], answer: &mut [u64; 8]) {
     match function {
         0 => thaolisem::thaolisem_decode_tag(buf, n[0] as usize, answer),
         1 => thaolisem::thaolisem_decode_unsigned(word(n[0]), buf, n[1] as usize, answer),
@@ -32,7 +32,7 @@ pub(crate) fn read(function: usize, n: [u64; 6], buf: &[u8], answer: &mut [u64; 
 }
 
 // Puts what the exported writer of a tag, an integer or a boolean answers into the answer.
-fn write_tagged(function: usize, n: [u64; 6], buf: &mut [u8], answer: &mut [u64; 8]) {
+fn write_tagged(function: usize, n: [u64; 8], buf: &mut [u8], answer: &mut [u64; 8]) {
     let first = byte(n[0]);
     let second = byte(n[1]);
     let place = n[3] as usize;
@@ -48,7 +48,7 @@ fn write_tagged(function: usize, n: [u64; 6], buf: &mut [u8], answer: &mut [u64;
 // Puts what the exported writer of that number answers into the answer.
 pub(crate) fn write(
     function: usize,
-    n: [u64; 6],
+    n: [u64; 8],
     content: &[u8],
     buf: &mut [u8],
     answer: &mut [u64; 8],

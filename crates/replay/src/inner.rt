@@ -9,7 +9,7 @@ use types::ApplicationTagNumber;
 use types::TagNumber;
 
 // Whether there is such a function, and its numbers name something: 2, 4 or 8 bytes; one of four classes, and of the first a number below 16.
-pub(crate) fn names(function: usize, n: [u64; 6]) -> bool {
+pub(crate) fn names(function: usize, n: [u64; 8]) -> bool {
     match function {
         11 => match n[0] {
             2 | 4 | 8 => true,
@@ -20,7 +20,7 @@ pub(crate) fn names(function: usize, n: [u64; 6]) -> bool {
             2..=4 => true,
             _ => false,
         },
-        _ => function <= 27,
+        _ => function <= 28,
     }
 }
 
@@ -47,7 +47,7 @@ fn read_bytes(count: u64, buf: &[u8], place: usize) -> [u64; 8] {
 }
 
 // What a reader of bytes answers, which are the first three.
-fn read_plain(function: usize, n: [u64; 6], buf: &[u8]) -> [u64; 8] {
+fn read_plain(function: usize, n: [u64; 8], buf: &[u8]) -> [u64; 8] {
     match function {
         10 => match numbers::read_byte(buf, n[0] as usize) {
             ByteRead::Byte(byte, next) => told::accepted(next, byte as u64, 0),
@@ -59,7 +59,7 @@ fn read_plain(function: usize, n: [u64; 6], buf: &[u8]) -> [u64; 8] {
 }
 
 // What the reader of that number answers.
-pub(crate) fn read(function: usize, n: [u64; 6], buf: &[u8]) -> [u64; 8] {
+pub(crate) fn read(function: usize, n: [u64; 8], buf: &[u8]) -> [u64; 8] {
     match function {
         10..=12 => read_plain(function, n, buf),
         13 => match tags::decode_expected(expected(n[0], byte(n[1])), buf, n[2] as usize) {
@@ -81,7 +81,7 @@ pub(crate) fn read(function: usize, n: [u64; 6], buf: &[u8]) -> [u64; 8] {
 }
 
 // What the writer of that number answers.
-pub(crate) fn write(function: usize, n: [u64; 6], content: &[u8], buf: &mut [u8]) -> [u64; 8] {
+pub(crate) fn write(function: usize, n: [u64; 8], content: &[u8], buf: &mut [u8]) -> [u64; 8] {
     let first = byte(n[0]);
     let place = n[1] as usize;
     match function {

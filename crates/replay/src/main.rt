@@ -4,11 +4,13 @@ ghost use lib.ListN.{length};
 
 mod asked;
 mod bytes;
+mod eight;
 mod exported;
 mod inner;
 mod line;
 mod number;
 mod part;
+mod taken;
 mod text;
 mod told;
 mod words;
@@ -83,6 +85,6 @@ fn main() {
     let mut line = [0u8; 140001];
     let mut content = [0u8; 70000];
     let mut buf = [0u8; 70000];
-    let mut text = [0u8; 140256];
+    let mut text = [0u8; 140512];
     run(&mut piece, &mut line, &mut content, &mut buf, &mut text);
 }

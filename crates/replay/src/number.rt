@@ -16,12 +16,12 @@ pub(crate) fn digit(byte: u8) -> u64
     }
 }
 
-// The number, no more than the most, whose digits begin at a place.
-pub(crate) fn digits(most: u64, line: &[u8], start: usize) -> Found {
+// The number, no more than the most, whose digits begin at a place and end before that byte, a space or the line's end.
+pub(crate) fn digits(until: u8, most: u64, line: &[u8], start: usize) -> Found {
     let mut value: u64 = 0;
     let mut place = start;
     while place < line.len() {
-        if line[place] == b' ' {
+        if line[place] == b' ' || line[place] == until {
             break;
         }
         let next = digit(line[place]);
@@ -47,9 +47,9 @@ pub(crate) fn digits(most: u64, line: &[u8], start: usize) -> Found {
 fn signed_digits(line: &[u8], start: usize) -> Found {
     let minus = behind(b'-', line, start);
     if minus == NOWHERE {
-        return digits(9223372036854775807, line, start);
+        return digits(b' ', 9223372036854775807, line, start);
     }
-    let found = digits(9223372036854775808, line, minus);
+    let found = digits(b' ', 9223372036854775808, line, minus);
     if found.value == 0 {
         return found;
     }
@@ -63,9 +63,9 @@ fn signed_digits(line: &[u8], start: usize) -> Found {
 pub(crate) fn number(kind: u8, line: &[u8], place: usize) -> Found {
     let start = behind(b' ', line, place);
     match kind {
-        b'b' => digits(255, line, start),
-        b'w' => digits(4294967295, line, start),
-        b'n' => digits(18446744073709551615, line, start),
+        b'b' => digits(b' ', 255, line, start),
+        b'w' => digits(b' ', 4294967295, line, start),
+        b'n' => digits(b' ', 18446744073709551615, line, start),
         _ => signed_digits(line, start),
     }
 }

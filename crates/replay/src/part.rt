@@ -12,6 +12,6 @@ pub(crate) fn put_part(len: u32, buf: &[u8], place: usize, text: &mut [u8], end:
 
 // Puts where the part lies, and the bytes that are handed over, at the end of the text; answers its new end.
 fn put_read(outcome: SliceRead, bytes: &[u8], text: &mut [u8], end: usize) -> usize {
-    let next = put_numbers(told::slice(outcome), text, end);
+    let next = put_numbers(told::slice(outcome), b" ", text, end);
     put_bytes(bytes, text, next)
 }

@@ -24,12 +24,17 @@ fn put_number(number: u64, text: &mut [u8], place: usize) -> usize {
     put(&digits[0..count], text, place)
 }
 
-// Puts eight numbers at a place, with a space between two; answers the place behind them.
-pub(crate) fn put_numbers(numbers: [u64; 8], text: &mut [u8], place: usize) -> usize {
+// Puts eight numbers at a place, with a space or a comma between two; answers the place behind them.
+pub(crate) fn put_numbers(
+    numbers: [u64; 8],
+    between: &[u8],
+    text: &mut [u8],
+    place: usize,
+) -> usize {
     let mut end = put_number(numbers[0], text, place);
     let mut done = 1;
     while done < 8 {
-        let behind = put(b" ", text, end);
+        let behind = put(between, text, end);
         end = put_number(numbers[done], text, behind);
         done += 1;
     }

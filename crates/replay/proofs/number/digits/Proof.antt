@@ -7,16 +7,19 @@ use Rattle.replay.proofs.number.digits.Statement.{statement}
 use Rattle.replay.proofs.number.digits.Tie as tie
 
 abbrev Inv-loop : tie.InvT-loop
-Inv-loop most line start value₀ place₀ value place = Unit {0}
+Inv-loop until most line start value₀ place₀ value place = Unit {0}
 
 abbrev μ-loop : tie.MeasureT-loop
-μ-loop most line start value₀ place₀ value place = length line - place
+μ-loop until most line start value₀ place₀ value place = length line - place
 
 loop-holds : tie.Need-loop-holds Inv-loop μ-loop
 loop-holds c = search needs
 
 shared-slice-read-if1 : tie.Need-shared-slice-read-if1 Inv-loop μ-loop
 shared-slice-read-if1 c = search needs
+
+shared-slice-read-if2 : tie.Need-shared-slice-read-if2 Inv-loop μ-loop
+shared-slice-read-if2 c = search needs
 
 shared-slice-read-digit : tie.Need-shared-slice-read-digit Inv-loop μ-loop
 shared-slice-read-digit c = search needs
@@ -74,6 +77,7 @@ digits-spec =
     μ-loop
     loop-holds
     shared-slice-read-if1
+    shared-slice-read-if2
     shared-slice-read-digit
     digit-requires
     nothing-requires

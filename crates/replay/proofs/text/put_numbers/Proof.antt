@@ -8,10 +8,10 @@ use Rattle.replay.proofs.text.put_numbers.Statement.{statement}
 use Rattle.replay.proofs.text.put_numbers.Tie as tie
 
 abbrev Inv-loop : tie.InvT-loop
-Inv-loop text₀ place numbers end₀ done₀ t8 text end done = length text ≡ length text₀
+Inv-loop between text₀ place numbers end₀ done₀ text end done = length text ≡ length text₀
 
 abbrev μ-loop : tie.MeasureT-loop
-μ-loop text₀ place numbers end₀ done₀ t8 text end done = 8 - done
+μ-loop between text₀ place numbers end₀ done₀ text end done = 8 - done
 
 array-read-put-number : tie.Need-array-read-put-number Inv-loop μ-loop
 array-read-put-number c = search needs
@@ -21,9 +21,6 @@ put-number-requires c κs = search needs
 
 loop-holds : tie.Need-loop-holds Inv-loop μ-loop
 loop-holds c = search needs
-
-slice-aggregate-put : tie.Need-slice-aggregate-put Inv-loop μ-loop
-slice-aggregate-put c = search needs
 
 put-requires : tie.Need-put-requires Inv-loop μ-loop
 put-requires c κs = search needs
@@ -61,7 +58,6 @@ put-numbers-spec =
     array-read-put-number
     put-number-requires
     loop-holds
-    slice-aggregate-put
     put-requires
     mul-put-number
     array-read-put-number-2
