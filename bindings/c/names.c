@@ -1,4 +1,4 @@
-/* Tries every name of the header on answers in which numbers that could be taken for each other differ; ends with 1 where one is not the library's. The numbers are those of document 01's rules. */
+/* Tries every name of the header on answers in which numbers that could be taken for each other differ; ends with 1 where one is not the library's. The numbers are those of document 01's rules, and for segments of request K9 of 02. */
 #include <inttypes.h>
 #include <stdio.h>
 #include <stdlib.h>
@@ -6,13 +6,15 @@
 #include "thaolisem.h"
 
 #define BYTES(...) (const uint8_t[]){__VA_ARGS__}, sizeof(const uint8_t[]){__VA_ARGS__}
-#define IS(place, number) is(#place, place, __LINE__, number)
+#define IS(place, number) is(#place, answer[place], __LINE__, number)
+#define STATE_IS(place, number) is(#place, state[place], __LINE__, number)
 
 static uint64_t answer[8];
+static uint64_t state[8];
 
-static void is(const char *name, int place, int line, uint64_t number) {
-    if (answer[place] == number) return;
-    printf("names.c, line %d: %s is %" PRIu64 "\n", line, name, answer[place]);
+static void is(const char *name, uint64_t told, int line, uint64_t number) {
+    if (told == number) return;
+    printf("names.c, line %d: %s is %" PRIu64 "\n", line, name, told);
     exit(1);
 }
 
@@ -149,7 +151,46 @@ static void headers(void) {
     IS(THAOLISEM_SEGMENT_WINDOW, 7);
 }
 
-/* Each refusal but THAOLISEM_OTHER_TAG_VALUE, which no function gives. */
+/* Takes these bytes as a frame, into a buffer of nine bytes. */
+static void take(const uint8_t *bytes, size_t len) {
+    static uint8_t buf[9];
+    thaolisem_take_segment(state, bytes, len, buf, sizeof buf, answer);
+}
+
+/* Three frames of invoke id 5 and choice 14, with parts of 3, 4 and 1 bytes; between them and behind them what each of 24 to 27 refuses, and before all a state that is none. */
+static void segments(void) {
+    state[THAOLISEM_STATE_BEGUN] = 2;
+    take(BYTES(0x3C, 5, 0, 4, 14));
+    refused(THAOLISEM_CANNOT_BE_WRITTEN, 0);
+    state[THAOLISEM_STATE_BEGUN] = 0;
+    take(BYTES(0x3C, 5, 0, 4, 14, 7, 8, 9));
+    accepted(3);
+    take(BYTES(0x3C, 5, 1, 128, 14, 6));
+    refused(THAOLISEM_WINDOW_NOT_ALLOWED, 0);
+    take(BYTES(0x3C, 6, 1, 4, 14, 6));
+    refused(THAOLISEM_OTHER_ID_OR_CHOICE, 0);
+    take(BYTES(0x3C, 5, 2, 4, 14, 6));
+    refused(THAOLISEM_OTHER_SEQUENCE, 0);
+    take(BYTES(0x3C, 5, 1, 4, 14, 7, 8, 9, 6));
+    accepted(7);
+    IS(THAOLISEM_OUTCOME, THAOLISEM_MORE);
+    IS(THAOLISEM_DUE, 2);
+    STATE_IS(THAOLISEM_STATE_BEGUN, 1);
+    STATE_IS(THAOLISEM_STATE_FINISHED, 0);
+    STATE_IS(THAOLISEM_STATE_ID, 5);
+    STATE_IS(THAOLISEM_STATE_CHOICE, 14);
+    STATE_IS(THAOLISEM_STATE_DUE, 2);
+    STATE_IS(THAOLISEM_STATE_HELD, 7);
+    take(BYTES(0x38, 5, 2, 4, 14, 6));
+    accepted(8);
+    IS(THAOLISEM_OUTCOME, THAOLISEM_FINISHED);
+    IS(THAOLISEM_DUE, 3);
+    STATE_IS(THAOLISEM_STATE_FINISHED, 1);
+    take(BYTES(0x38, 5, 3, 4, 14, 6));
+    refused(THAOLISEM_ALREADY_FINISHED, 0);
+}
+
+/* Each refusal but THAOLISEM_OTHER_TAG_VALUE, which no function gives, and those that segments alone are given. */
 static void refusals(void) {
     static uint8_t buf[65536];
     thaolisem_decode_tag(buf, sizeof buf, 0, answer);
@@ -196,6 +237,7 @@ int main(void) {
     bodies();
     values();
     headers();
+    segments();
     refusals();
     return 0;
 }

@@ -18,10 +18,11 @@
      walk        0, 0, count
      value       0, next place, case, a, b, c, d
      header      0, next place, kind, a, b, c, d
+     segments    0, bytes held, outcome, sequence due
      utf8        0
      a write     0, next place
 
-   Classes, cases, kinds, refusals and the places of the eight numbers have names below.
+   Classes, cases, kinds, outcomes, refusals and the places of the eight numbers have names below.
 
    A value or a header is written from the fields that it is read with, a to d in their order, except
    that text, octets and bits have no place and no length: their content is the whole lent slice. A
@@ -30,7 +31,7 @@
    NaN: the bits of a Real or Double are kept, read or written, unless they are a NaN's. Every NaN
    is read as 7FC00000 or 7FF8000000000000, and written so, whatever its sign and payload were.
 
-   All that gives 12, each in a write:
+   All that gives 12, each in a write but the last:
      tag         a class that is not 1 to 4; an application number above 15;
                  an opening or a closing with a value that is not 0
      integer     a class that is not 1 or 2
@@ -44,14 +45,24 @@
      Enumerated  as a value, one above 4,294,967,295
      header      a kind that is not 0, 2, 3 or 4; segments or size of a request above 15; another
                  field above 255 (a service choice of 34 to 255 gives 11)
+     state       of segments: begun or finished above 1; an invoke id, a service choice or a sequence
+                 due above 255
 
    A read tests 1, then 2, then what the bytes tell as they come; a write tests 1, 2, 12, then 11 or
    10, then 13. A refused write changes no byte of the buffer; one that is accepted changes only the
    bytes from the place to the next place.
 
+   An answer in segments is taken frame by frame. Between the calls the caller keeps its state, eight
+   numbers that are all 0 before the first frame, and the bytes held, at the start of a lent buffer. A
+   frame tests 12, 27, 1 (for the buffer, then for the frame), 3, 17, 11, 24, 25, 26, then 13. A refused
+   frame changes no number of the state and no byte of the buffer; one that is accepted changes only the
+   bytes behind those held before, as many as its part has. The buffer may be another at each call, or
+   longer: where the bytes held stand at its start as they were left, they are the accepted parts joined.
+
    The caller answers for what C cannot say: a pointer is not null, also with a length of 0; so many
-   bytes can be read there, in `buf` of a writer written too; `answer` has room for eight numbers;
-   and none of the slices and arrays of one call overlap where one of them is written. */
+   bytes can be read there, in `buf` of a writer or of segments written too; `answer` has room for eight
+   numbers, and `state` has eight; and none of the slices and arrays of one call overlap where one of
+   them is written. */
 #ifndef THAOLISEM_H
 #define THAOLISEM_H
 
@@ -106,11 +117,17 @@ enum {
     THAOLISEM_ABSENT = 2   /* what stands in its place is told: a tag, or, class 0, the buffer's end */
 };
 
+/* Outcomes of a frame of an answer in segments. */
+enum {
+    THAOLISEM_MORE = 1,    /* more frames follow */
+    THAOLISEM_FINISHED = 2 /* it was the last: the bytes held are the whole answer's */
+};
+
 /* Refusals, and what they carry. */
 enum {
-    THAOLISEM_BUFFER_TOO_LONG = 1,           /* buffer, or lent content, over 65,535 bytes: its length */
+    THAOLISEM_BUFFER_TOO_LONG = 1,           /* buffer, lent content or frame over 65,535 bytes: its length */
     THAOLISEM_PLACE_PAST_END = 2,            /* start place past the buffer's end: the place */
-    THAOLISEM_BYTES_RUN_OUT = 3,             /* bytes run out: the end for a single byte, else place plus count */
+    THAOLISEM_BYTES_RUN_OUT = 3,             /* bytes run out: the end for a single byte and for a segment's header, else place plus count */
     THAOLISEM_OTHER_TAG_NUMBER = 4,          /* tag number is not the expected one: the tag found */
     THAOLISEM_OTHER_TAG_VALUE = 5,           /* tag value is not the expected one: the tag found; given by no function here */
     THAOLISEM_NO_OPENING_TAG = 6,            /* no opening tag where a body is asked for: the tag found */
@@ -119,13 +136,17 @@ enum {
     THAOLISEM_OTHER_CHARACTER_SET = 9,       /* character set not 0: the set */
     THAOLISEM_TEXT_NOT_UTF8 = 10,            /* text not UTF-8: the first bad place, from the text's start */
     THAOLISEM_SERVICE_CHOICE_TOO_LARGE = 11, /* service choice above 33: the choice */
-    THAOLISEM_CANNOT_BE_WRITTEN = 12,        /* the numbers name nothing that can be written: 0 */
-    THAOLISEM_NO_ROOM = 13,                  /* no room: the length of the whole write */
+    THAOLISEM_CANNOT_BE_WRITTEN = 12,        /* the numbers name nothing that can be written, or are no state: 0 */
+    THAOLISEM_NO_ROOM = 13,                  /* no room: the length of the whole write, for a segment of its part */
     THAOLISEM_ALLOWANCE_SPENT = 14,          /* allowance spent: the tags read */
     THAOLISEM_CLOSING_WITHOUT_OPENING = 15,  /* a closing tag without its opening: its place */
     THAOLISEM_TOO_MANY_BLOCKS_OPEN = 16,     /* a seventeenth block open at once: its place */
-    THAOLISEM_OTHER_PDU_TYPE = 17,           /* other PDU type, or segment bit set: the control byte */
-    THAOLISEM_ENUMERATED_TOO_LARGE = 18      /* enumerated value above 4,294,967,295: 0 */
+    THAOLISEM_OTHER_PDU_TYPE = 17,           /* other PDU type, or segment bit set, for a segment clear: the control byte */
+    THAOLISEM_ENUMERATED_TOO_LARGE = 18,     /* enumerated value above 4,294,967,295: 0 */
+    THAOLISEM_WINDOW_NOT_ALLOWED = 24,       /* a segment's window is 0 or above 127: 0 */
+    THAOLISEM_OTHER_ID_OR_CHOICE = 25,       /* a segment has another invoke id or service choice than the first: 0 */
+    THAOLISEM_OTHER_SEQUENCE = 26,           /* a segment has another sequence number than the one due: 0 */
+    THAOLISEM_ALREADY_FINISHED = 27          /* the last segment was accepted before: 0 */
 };
 
 /* Places of the eight numbers, by kind of answer. */
@@ -192,7 +213,21 @@ enum {
     THAOLISEM_ACK_CHOICE = 4,
     THAOLISEM_SEGMENT_ID = 3,
     THAOLISEM_SEGMENT_SEQUENCE = 4,
-    THAOLISEM_SEGMENT_WINDOW = 5
+    THAOLISEM_SEGMENT_WINDOW = 5,
+
+    /* segments; the bytes held are THAOLISEM_NEXT, where the next part goes */
+    THAOLISEM_OUTCOME = 2,
+    THAOLISEM_DUE = 3
+};
+
+/* Places of the eight numbers of a state of segments; the last two are not read, and 0 after every accepted frame. */
+enum {
+    THAOLISEM_STATE_BEGUN = 0,    /* 0, or 1 once a frame was accepted */
+    THAOLISEM_STATE_FINISHED = 1, /* 0, or 1 once the last was accepted */
+    THAOLISEM_STATE_ID = 2,       /* the first frame's invoke id */
+    THAOLISEM_STATE_CHOICE = 3,   /* the first frame's service choice */
+    THAOLISEM_STATE_DUE = 4,      /* the sequence number due */
+    THAOLISEM_STATE_HELD = 5      /* the bytes held */
 };
 
 /* Reads, at a place of a buffer. */
@@ -249,6 +284,11 @@ void thaolisem_encode_value(uint8_t value_case, uint64_t a, uint64_t b, uint64_t
 
 /* A header alone, by its kind and fields; a field that the kind has not is not read. Refused 11 too. */
 void thaolisem_encode_header(uint8_t kind, uint64_t a, uint64_t b, uint64_t c, uint64_t d, uint8_t *buf, size_t len, size_t place, uint64_t answer[8]);
+
+/* Answers in segments, frame by frame. */
+
+/* Takes one whole frame of a complex acknowledgement in segments: its part, the service bytes behind the choice, goes behind the bytes held in `buf`, and the state becomes the one after it. THAOLISEM_MORE, or THAOLISEM_FINISHED with the last frame. Refused 12, 27, 1, 3, 17, 11, 24, 25, 26, 13. */
+void thaolisem_take_segment(uint64_t state[8], const uint8_t *frame, size_t frame_len, uint8_t *buf, size_t len, uint64_t answer[8]);
 
 #ifdef __cplusplus
 }

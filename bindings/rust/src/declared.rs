@@ -134,4 +134,13 @@ extern "C" {
         place: usize,
         answer: *mut Numbers,
     );
+
+    pub fn thaolisem_take_segment(
+        state: *mut Numbers,
+        frame: *const u8,
+        frame_len: usize,
+        buf: *mut u8,
+        len: usize,
+        answer: *mut Numbers,
+    );
 }
