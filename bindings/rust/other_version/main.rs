@@ -57,3 +57,15 @@ fn writes() {
     let service_choice = ConfirmedServiceChoice::WriteProperty;
     write(|w| SimpleAck { invoke_id: 4, service_choice }.encode(w));
 }
+
+#[test]
+fn segments() {
+    let frame = [0x38, 0x01, 0x00, 0x04, 0x0C, 0x78];
+    let mut segments = Segments::default();
+    let mut buf = [0xAA; 9];
+    other_version(segments.take(&frame, &mut buf));
+    assert_eq!(segments, Segments::default());
+    let mut state = [0; 8];
+    other_version(raw::accepted(&raw::take_segment(&mut state, &frame, &mut buf)));
+    assert_eq!((state, buf), ([0; 8], [0xAA; 9]));
+}

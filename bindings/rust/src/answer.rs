@@ -3,13 +3,13 @@ use crate::declared::THAOLISEM_VERSION;
 use crate::tag::Tag;
 use core::fmt;
 
-/// The eight numbers of an answer, in the order that bindings/c/thaolisem.h gives.
+/// The eight numbers of an answer, or of a state of segments, in the order that bindings/c/thaolisem.h gives.
 pub(crate) type Numbers = [u64; 8];
 
 /// Why a call was not accepted.
 #[derive(Debug, Clone, Copy, PartialEq, Eq)]
 pub struct Refusal {
-    /// 1 to 18, by the table in bindings/c/thaolisem.h; 0 where the library is not this crate's: one of another version, which is carried, or, carrying 0, one that told what has no name here.
+    /// 1 to 18 or 24 to 27, by the table in bindings/c/thaolisem.h; 0 where the library is not this crate's: one of another version, which is carried, or, carrying 0, one that told what has no name here.
     pub number: u64,
     /// What the table says that it carries.
     pub carried: Carried,

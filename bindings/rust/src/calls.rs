@@ -2,8 +2,9 @@
 //!
 //! Why each call is sound:
 //! - A slice's pointer is not null, also where the slice is empty, and as many bytes as its length can be read there; in a `&mut` slice they can be written too.
-//! - Nothing overlaps what is written: a `&mut` slice overlaps no other slice, and the array for the answer is a local of `answer_of`.
-//! - The library reads and writes these slices and that array alone, never past their ends, and it comes back: that is proved of every function, for every input.
+//! - A state is lent as a `&mut` array of eight numbers, which can be read and written.
+//! - Nothing overlaps what is written: a `&mut` slice or state overlaps nothing else that is lent, and the array for the answer is a local of `answer_of`.
+//! - The library reads and writes these slices and arrays alone, never past their ends, and it comes back: that is proved of every function, for every input.
 //! - It puts all eight numbers into the array, whatever stood there: that is each function's promise. So the array need not be cleared before.
 //! - These are promises of one version of the library. Its number is asked before the first call, and of another version nothing else is called.
 use crate::answer::{part, Numbers};
@@ -218,4 +219,12 @@ pub fn encode_header(kind: u8, [a, b, c, d]: [u64; 4], buf: &mut [u8], place: us
     unsafe {
         answer_of(|answer| thaolisem_encode_header(kind, a, b, c, d, bytes, len, place, answer))
     }
+}
+
+/// Takes one frame of an answer in segments: its part goes behind the bytes held in the buffer, and the state becomes the one after it.
+#[inline]
+pub fn take_segment(state: &mut Numbers, frame: &[u8], buf: &mut [u8]) -> Numbers {
+    let (sent, sent_len) = (frame.as_ptr(), frame.len());
+    let (bytes, len) = (buf.as_mut_ptr(), buf.len());
+    unsafe { answer_of(|answer| thaolisem_take_segment(state, sent, sent_len, bytes, len, answer)) }
 }

@@ -1,7 +1,8 @@
 //! Thaolisem for Rust: tags, integers, bodies, values and confirmed headers of BACnet, read and written by the proved
-//! static library, under the names of embedded-bacnet.
+//! static library, under the names of embedded-bacnet; and complex answers in segments, put together by it.
 //!
-//! Every call answers on every input. A refused read moves no reader, a refused write moves no writer and changes no byte.
+//! Every call answers on every input. A refused read moves no reader, a refused write moves no writer and changes no byte;
+//! a refused segment leaves what was taken as it was.
 //! Where the library is of another version than this crate, every call of it is refused 0.
 #![no_std]
 #![deny(unsafe_code)]
@@ -19,6 +20,7 @@ mod header;
 mod integers;
 pub mod raw;
 mod reader;
+mod segments;
 mod service_choice;
 mod tag;
 #[cfg(test)]
@@ -42,6 +44,7 @@ pub use integers::{
     encode_enumerated, encode_signed, encode_unsigned,
 };
 pub use reader::Reader;
+pub use segments::{Segments, Taken};
 pub use service_choice::ConfirmedServiceChoice;
 pub use tag::{ApplicationTagNumber, Tag, TagNumber};
 pub use utf8::check_utf8;

@@ -3,6 +3,7 @@ use crate::answer::{accepted, part, Numbers, Refusal};
 use crate::body::found_or_absent;
 use crate::header::Header;
 use crate::reader::Reader;
+use crate::segments::{Segments, Taken};
 use crate::tag::Tag;
 use crate::value::ApplicationDataValue;
 
@@ -73,6 +74,31 @@ fn headers() {
         assert_eq!(Header::told(&with(kind, place, number)), None);
         assert!(Header::told(&with(kind, place, 0)).is_some());
     }
+}
+
+#[test]
+fn segments() {
+    let named = [1, 0, 255, 33, 255, 65_535, 0, 0];
+    let refused = |outcome, state| {
+        let mut segments = Segments::default();
+        let told = [0, 65_535, outcome, 255, 0, 0, 0, 0];
+        assert_eq!(segments.go_on(&told, state), Err(Refusal::UNNAMED));
+        assert_eq!(segments, Segments::default());
+    };
+    for outcome in [0, 3].into_iter().chain(LARGE) {
+        refused(outcome, named);
+    }
+    // more to come in a state that is finished, and the last in one that is not
+    refused(1, [1, 1, 255, 33, 255, 65_535, 0, 0]);
+    refused(2, named);
+    // a number that its place cannot have
+    for (place, number) in [(0, 0), (0, 2), (1, 2), (2, 256), (3, 34), (4, 256)] {
+        let mut state = named;
+        state[place] = number;
+        refused(1, state);
+    }
+    let more = Segments::default().go_on(&[0, 65_535, 1, 255, 0, 0, 0, 0], named);
+    assert_eq!(more, Ok(Taken::More));
 }
 
 #[test]
