@@ -1,12 +1,14 @@
-//! The crate's answers. Where expected ones come from: 01's examples and refusals; the standard's own examples
-//! (ASHRAE 135, clauses 20.2.3 to 20.2.14); docs/DIFFERENCES.md, whose rows the oracle holds to the Rust and to a second
-//! reading of 01; `core::str::from_utf8`. The given Rust has no test vectors. Each comment says which.
+//! The crate's answers. Where expected ones come from: 01's examples and refusals, and the requests of 02; the standard's
+//! own examples (ASHRAE 135, clauses 20.2.3 to 20.2.14); docs/DIFFERENCES.md, whose rows the oracle holds to the Rust and
+//! to a second reading of 01; `core::str::from_utf8`. The given Rust has no test vectors. Each comment says which.
 mod bodies;
 mod bytes;
 mod headers;
 mod integers;
 mod optional;
 mod refusals;
+mod segments;
+mod states;
 mod tags;
 mod utf8;
 mod values;

@@ -48,6 +48,22 @@ fn one_to_eighteen() {
 }
 
 #[test]
+fn twenty_four_to_twenty_seven() {
+    // one frame for each number that 02, K9 adds, behind a first one of invoke id 1 and choice 12
+    let mut segments = Segments::default();
+    let mut take = |frame: [u8; 5]| segments.take(&frame, &mut []);
+    take([0x3C, 1, 0, 4, 12]).unwrap();
+    let met = [
+        number(take([0x38, 1, 1, 0, 12])),
+        number(take([0x38, 2, 1, 4, 12])),
+        number(take([0x38, 1, 2, 4, 12])),
+        // the last frame, and one more
+        number(take([0x38, 1, 1, 4, 12]).and_then(|_| take([0x38, 1, 2, 4, 12]))),
+    ];
+    assert!(met.iter().copied().eq(24..=27), "{met:?}");
+}
+
+#[test]
 fn in_words() {
     assert_eq!(tag(&[]).unwrap_err().to_string(), "refused 3 carrying 0");
     let no_value = value(&[0x3E]).unwrap_err().to_string();

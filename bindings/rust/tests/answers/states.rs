@@ -1,0 +1,106 @@
+//! The eight numbers of answers in segments and of their states, by raw calls; also in states that no call made. What is expected: 02, K9, and the table of bindings/c/thaolisem.h.
+use thaolisem::raw::{take_segment, Numbers};
+
+/// A frame of invoke id 1, sequence number 3, window 4 and choice 12, behind which more follow, with a part of two bytes.
+const FRAME: [u8; 7] = [0x3C, 1, 3, 4, 12, 7, 8];
+
+/// A state in which that frame is due, with three bytes held.
+const DUE: Numbers = [1, 0, 1, 12, 3, 3, 0, 0];
+
+/// The state in which one number is another.
+fn with(place: usize, number: u64) -> Numbers {
+    let mut state = DUE;
+    state[place] = number;
+    state
+}
+
+/// Whether that frame is refused so, with state and buffer as they were.
+fn refuses(state: Numbers, refusal: u64, carried: u64) {
+    let (mut after, mut buf) = (state, [0xAA; 9]);
+    let told = take_segment(&mut after, &FRAME, &mut buf);
+    assert_eq!(told, [refusal, 0, 0, carried, 0, 0, 0, 0], "{state:?}");
+    assert_eq!((after, buf), (state, [0xAA; 9]));
+}
+
+/// Whether that frame is accepted in a state, and leads to this one.
+fn leads_to(mut state: Numbers, after: Numbers) {
+    let mut buf = [0xAA; 9];
+    let told = take_segment(&mut state, &FRAME, &mut buf);
+    assert_eq!(told, [0, after[5], 1, after[4], 0, 0, 0, 0]);
+    assert_eq!(state, after);
+    let end = after[5] as usize;
+    assert_eq!(buf[end - 2..end], FRAME[5..]);
+    assert_eq!(buf.iter().filter(|byte| **byte == 0xAA).count(), 7);
+}
+
+#[test]
+fn each_number() {
+    // begun, finished, invoke id, choice, sequence due, bytes held
+    let (mut state, mut buf) = ([0; 8], [0xAA; 9]);
+    let first = [0x3E, 200, 0, 1, 33, 5, 6, 7];
+    assert_eq!(take_segment(&mut state, &first, &mut buf), [0, 3, 1, 1, 0, 0, 0, 0]);
+    assert_eq!(state, [1, 0, 200, 33, 1, 3, 0, 0]);
+    let second = [0x3C, 200, 1, 127, 33, 8];
+    assert_eq!(take_segment(&mut state, &second, &mut buf), [0, 4, 1, 2, 0, 0, 0, 0]);
+    assert_eq!(state, [1, 0, 200, 33, 2, 4, 0, 0]);
+    let last = [0x39, 200, 2, 2, 33, 9, 10];
+    assert_eq!(take_segment(&mut state, &last, &mut buf), [0, 6, 2, 3, 0, 0, 0, 0]);
+    assert_eq!(state, [1, 1, 200, 33, 3, 6, 0, 0]);
+    assert_eq!(buf, [5, 6, 7, 8, 9, 10, 0xAA, 0xAA, 0xAA]);
+}
+
+#[test]
+fn numbers_that_are_no_state() {
+    for (place, most) in [(0, 1), (1, 1), (2, 255), (3, 255), (4, 255)] {
+        for number in [most + 1, 256, 1 << 8 | 1, 1 << 32 | 1, u64::MAX] {
+            refuses(with(place, number), 12, 0);
+        }
+    }
+    // before 27, and before 1
+    refuses([1, 1, 256, 12, 3, 3, 0, 0], 12, 0);
+    let (mut state, mut long) = ([2; 8], vec![0xAA; 65_536]);
+    let told = take_segment(&mut state, &FRAME, &mut long);
+    assert_eq!((told, state), ([12, 0, 0, 0, 0, 0, 0, 0], [2; 8]));
+    assert!(long.iter().all(|byte| *byte == 0xAA));
+}
+
+#[test]
+fn the_largest_numbers_of_a_state() {
+    refuses(with(2, 255), 25, 0);
+    refuses(with(3, 255), 25, 0);
+    refuses(with(4, 255), 26, 0);
+    leads_to(with(5, 7), [1, 0, 1, 12, 4, 9, 0, 0]);
+}
+
+#[test]
+fn numbers_that_are_not_read() {
+    leads_to([1, 0, 1, 12, 3, 3, u64::MAX, 7], [1, 0, 1, 12, 4, 5, 0, 0]);
+    // and stay with a refusal
+    refuses([1, 0, 1, 12, 2, 3, u64::MAX, 7], 26, 0);
+}
+
+#[test]
+fn more_held_than_any_buffer_has() {
+    for held in [8, 9, 10, 65_534, 65_535, 65_536, 1 << 32, u64::MAX - 1, u64::MAX] {
+        refuses(with(5, held), 13, 2);
+        // also for a part of no bytes, which has room behind nine of nine
+        let (mut state, mut buf) = (with(5, held), [0xAA; 9]);
+        let told = take_segment(&mut state, &FRAME[..5], &mut buf);
+        match held {
+            8 | 9 => assert_eq!(told, [0, held, 1, 4, 0, 0, 0, 0]),
+            _ => assert_eq!(told, [13, 0, 0, 0, 0, 0, 0, 0]),
+        }
+        assert_eq!(buf, [0xAA; 9]);
+    }
+}
+
+#[test]
+fn other_states_that_no_call_made() {
+    // finished and not begun
+    refuses([0, 1, 0, 0, 0, 0, 0, 0], 27, 0);
+    // not begun: invoke id and choice are not asked, the sequence due and the bytes held are
+    leads_to([0, 0, 9, 9, 3, 3, 0, 0], [1, 0, 1, 12, 4, 5, 0, 0]);
+    refuses([0, 0, 1, 12, 0, 3, 0, 0], 26, 0);
+    // begun with a choice that no frame has
+    refuses(with(3, 34), 25, 0);
+}
