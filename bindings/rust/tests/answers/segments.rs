@@ -214,6 +214,7 @@ fn the_longest_buffer_and_the_longest_frame() {
     let mut buf = vec![0xAA; 65_535];
     let part = vec![7; 65_530];
     let mut segments = begun(&part, &mut buf);
+    refuses(&segments, &frame(LAST, 1, &[]), &mut [0xAA; 65_536], refused(1, 65_536));
     refuses(&segments, &frame(LAST, 1, &[8; 6]), &mut buf, refused(13, 6));
     assert_eq!(segments.take(&frame(LAST, 1, &[8; 5]), &mut buf), Ok(Finished));
     assert_eq!((segments.held(), segments.due()), (65_535, 2));

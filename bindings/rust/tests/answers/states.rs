@@ -16,8 +16,13 @@ fn with(place: usize, number: u64) -> Numbers {
 
 /// Whether that frame is refused so, with state and buffer as they were.
 fn refuses(state: Numbers, refusal: u64, carried: u64) {
+    refuses_frame(state, &FRAME, refusal, carried);
+}
+
+/// The same of any frame.
+fn refuses_frame(state: Numbers, frame: &[u8], refusal: u64, carried: u64) {
     let (mut after, mut buf) = (state, [0xAA; 9]);
-    let told = take_segment(&mut after, &FRAME, &mut buf);
+    let told = take_segment(&mut after, frame, &mut buf);
     assert_eq!(told, [refusal, 0, 0, carried, 0, 0, 0, 0], "{state:?}");
     assert_eq!((after, buf), (state, [0xAA; 9]));
 }
@@ -50,9 +55,25 @@ fn each_number() {
 }
 
 #[test]
+fn each_refusal_leaves_the_numbers() {
+    refuses(with(1, 1), 27, 0);
+    refuses_frame(DUE, &[0x3C; 65_536], 1, 65_536);
+    refuses_frame(DUE, &FRAME[..4], 3, 4);
+    refuses_frame(DUE, &[0x30, 1, 3, 4, 12, 7, 8], 17, 0x30);
+    refuses_frame(DUE, &[0x3C, 1, 3, 4, 34, 7, 8], 11, 34);
+    refuses_frame(DUE, &[0x3C, 1, 3, 0, 12, 7, 8], 24, 0);
+    refuses_frame(DUE, &[0x3C, 1, 3, 128, 12, 7, 8], 24, 0);
+    refuses_frame(DUE, &[0x3C, 2, 3, 4, 12, 7, 8], 25, 0);
+    refuses_frame(DUE, &[0x3C, 1, 3, 4, 11, 7, 8], 25, 0);
+    refuses_frame(DUE, &[0x3C, 1, 4, 4, 12, 7, 8], 26, 0);
+    refuses_frame(DUE, &[0x3C, 1, 3, 4, 12, 0, 0, 0, 0, 0, 0, 0], 13, 7);
+    leads_to(DUE, [1, 0, 1, 12, 4, 5, 0, 0]);
+}
+
+#[test]
 fn numbers_that_are_no_state() {
     for (place, most) in [(0, 1), (1, 1), (2, 255), (3, 255), (4, 255)] {
-        for number in [most + 1, 256, 1 << 8 | 1, 1 << 32 | 1, u64::MAX] {
+        for number in [most + 1, 256, 257, 1 << 32 | 1, u64::MAX] {
             refuses(with(place, number), 12, 0);
         }
     }
