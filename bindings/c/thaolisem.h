@@ -22,7 +22,8 @@
      utf8        0
      a write     0, next place
 
-   Classes, cases, kinds, outcomes, refusals and the places of the eight numbers have names below.
+   Classes, cases, kinds, outcomes, refusals and the places of the eight numbers, of an answer and of a
+   state, have names below.
 
    A value or a header is written from the fields that it is read with, a to d in their order, except
    that text, octets and bits have no place and no length: their content is the whole lent slice. A

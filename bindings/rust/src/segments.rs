@@ -14,7 +14,7 @@ const HELD: usize = 5;
 /// The place of the number that tells whether more frames follow.
 const OUTCOME: usize = 2;
 
-/// How far an answer in segments has been taken; its bytes are held in a buffer of the caller's.
+/// How far an answer in segments has been taken, by default no frame of it; its bytes are held in a buffer of the caller's.
 #[derive(Debug, Clone, PartialEq, Eq, Default)]
 pub struct Segments {
     state: Numbers,
