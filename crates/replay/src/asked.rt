@@ -35,7 +35,7 @@ pub(crate) fn arguments(
     while place < table.len() {
         let kind = table[place];
         place += 1;
-        if kind == b' ' || 6 <= given {
+        if kind == b' ' || 8 <= given {
             break;
         }
         if kind == b'r' {

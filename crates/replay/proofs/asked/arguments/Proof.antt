@@ -15,8 +15,8 @@ abbrev μ-loop : tie.MeasureT-loop
 μ-loop table kinds line content₀ buf₀ numbers₀ given₀ read₀ lent₀ end₀ place₀ content buf numbers given read lent end place =
     length table - place
 
-word-end-requires : tie.Need-word-end-requires Inv-loop μ-loop
-word-end-requires c κs = search needs
+lent-numbers-requires : tie.Need-lent-numbers-requires Inv-loop μ-loop
+lent-numbers-requires c κs = search needs
 
 loop-holds : tie.Need-loop-holds Inv-loop μ-loop
 loop-holds c = search needs
@@ -87,7 +87,7 @@ arguments-spec =
     (tie.spec
     Inv-loop
     μ-loop
-    word-end-requires
+    lent-numbers-requires
     loop-holds
     shared-slice-read-kind
     add-place
