@@ -2,6 +2,7 @@
 //! `oracle/compare` holds it to the given Rust and to 01 read a second time; nothing that it answers comes from there.
 mod raw;
 mod reading;
+mod segments;
 mod writing;
 
 use protocol::Request;
@@ -11,7 +12,7 @@ fn main() -> std::io::Result<()> {
     protocol::answer_all(|request| match request {
         Request::Read { what, place, buf } => reading::answer(what, buf, *place),
         Request::Write { what, place, capacity } => writing::answer(what, *place, *capacity),
-        Request::Segments { .. } => "unknown".to_string(),
+        Request::Segments { capacity, calls } => segments::answer(*capacity, calls),
     })
 }
 

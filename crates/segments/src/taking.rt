@@ -51,19 +51,29 @@ fn as_due(state: State, frame: &[u8]) -> Outcome
     requires { ⌜ 5 ≤ length (now frame) ⌝ }
     ensures { λ r. ⌜ paperOutcome r ≡ asDue (stateOf state) (now (frame .entry)) ⌝ }
 {
-    if frame[0] / 16 != COMPLEX_ACK || frame[0] / 8 % 2 != 1 {
-        return Outcome::Refused(Refusal::OtherPduType(frame[0]));
+    let control = frame[0];
+    let sequence = frame[2];
+    let window = frame[3];
+    let choice = frame[4];
+    if control / 16 != COMPLEX_ACK {
+        return Outcome::Refused(Refusal::OtherPduType(control));
     }
-    if AUDIT_LOG_QUERY < frame[4] {
-        return Outcome::Refused(Refusal::ServiceChoiceTooLarge(frame[4]));
+    if control / 8 % 2 != 1 {
+        return Outcome::Refused(Refusal::OtherPduType(control));
     }
-    if frame[3] < 1 || 127 < frame[3] {
+    if AUDIT_LOG_QUERY < choice {
+        return Outcome::Refused(Refusal::ServiceChoiceTooLarge(choice));
+    }
+    if window < 1 {
         return Outcome::Refused(Refusal::WindowNotAllowed);
     }
-    if !same_answer(state, frame[1], frame[4]) {
+    if 127 < window {
+        return Outcome::Refused(Refusal::WindowNotAllowed);
+    }
+    if !same_answer(state, frame[1], choice) {
         return Outcome::Refused(Refusal::OtherIdOrChoice);
     }
-    if frame[2] != state.due {
+    if sequence != state.due {
         return Outcome::Refused(Refusal::OtherSequence);
     }
     Outcome::Passed
