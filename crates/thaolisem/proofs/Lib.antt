@@ -1,3 +1,4 @@
 pub mod Written
 pub mod Single
 pub mod Fitting
+pub mod Kept

@@ -3,7 +3,7 @@
 use mathlib.Core.Path.{_≡_, refl, sym, ap, _∙_}
 use native.Mathlib.Omega.{arith}
 use Prim.Native.Nat.{ℕ, _-_, _*_, _^_, _<_, _≤_}
-use mathlib.Core.Bool.{true, false}
+use mathlib.Core.Bool.{Bool, true, false}
 use mathlib.Core.List.{List}
 use borrow.Author.Tests.{lt-ltb, le-ltb, ne-eqb}
 use lib.Dec.{eqb}
@@ -32,6 +32,7 @@ use Rattle.numbers.specs.declared.reading.UnsignedRead.the-variants as u
 use Rattle.numbers.specs.declared.integer.SignedRead.{SignedRead}
 use Rattle.numbers.specs.declared.integer.SignedRead.the-variants as i
 use Rattle.numbers.proofs.Single.{single-unsigned, single-signed}
+use Rattle.tags.specs.Item.{booleanByte}
 use Rattle.tags.specs.Reading.{paperTag}
 use Rattle.tags.specs.declared.reading.TagRead.{TagRead}
 use Rattle.tags.specs.declared.reading.TagRead.the-variants as t
@@ -66,6 +67,13 @@ use Rattle.headers.specs.declared.reading.HeaderRead.the-variants as hr
 use Rattle.headers.proofs.Control.{ofType, type-back}
 use Rattle.headers.proofs.Single.{ofFields, header-back, single-header-read}
 use Rattle.thaolisem.specs.Told.{toldRefusal, toldTag, toldUnsigned, toldSigned, toldBody, absenceTold, toldOptional, toldWalk, valueTold, toldValue, headerTold, toldHeader, toldCheck, toldWrite}
+use Rattle.segments.specs.State.{State, state, stateOf}
+use Rattle.segments.specs.Taking.{Taken, more, finished, paperTaken}
+use Rattle.segments.specs.Taking as segments
+use Rattle.segments.specs.declared.taking.Taken as program-taken
+use Rattle.segments.specs.declared.taking.Taken.the-variants as ta
+use Rattle.segments.proofs.Single.{single-taken}
+use Rattle.thaolisem.specs.Segment.{stateNumbers, numbersThen, toldTaken}
 
 -- what can be told back from its numbers is told apart by them
 apart : {A B : Type 0} (told : A → B) (back : B → A) (x y : A) → back (told x) ≡ x → back (told y) ≡ y → told x ≡ told y → x ≡ y
@@ -332,3 +340,31 @@ write-again (w.Refused x) = refusal-again writeFields x 0
 
 pub single-told-write : (x y : Written) → toldWrite (paperWritten x) ≡ toldWrite (paperWritten y) → x ≡ y
 single-told-write x y e = single-written x y (apart toldWrite writeBack (paperWritten x) (paperWritten y) (write-again x) (write-again y) e)
+
+-- a state is known from its numbers
+abbrev stateIn : List ℕ → State
+stateIn ns = state (eqb (at ns 0) 1) (eqb (at ns 1) 1) (at ns 2) (at ns 3) (at ns 4) (at ns 5)
+
+truth-again : (b : Bool) → eqb (booleanByte b) 1 ≡ b
+truth-again true = refl
+truth-again false = refl
+
+state-again : (s : State) → stateIn (stateNumbers s) ≡ s
+state-again s = simp (truth-again (s .begun), truth-again (s .finished))
+
+-- what became of a frame, from its eight numbers and those of the state then
+abbrev takenIn : Answer (Unit {0}) → (outcome : ℕ) → State → Taken
+takenIn (accepted a next) outcome s = if (eqb outcome 1) (more s) (finished s)
+takenIn (refused n c) outcome s = segments.refused n c
+
+abbrev takenBack : (told numbers : List ℕ) → Taken
+takenBack l ns = takenIn (answer noFields l) (at l 2) (stateIn ns)
+
+taken-again : (ns : List ℕ) (x : program-taken.Taken) → takenBack (toldTaken (paperTaken x)) (numbersThen ns (paperTaken x)) ≡ paperTaken x
+taken-again ns (ta.More s) = ap more (state-again (stateOf s))
+taken-again ns (ta.Finished s) = ap finished (state-again (stateOf s))
+taken-again ns (ta.Refused x) = ap (λ (a : Answer (Unit {0})). takenIn a (at (toldTaken (paperTaken (ta.Refused x))) 2) (stateIn ns)) (refusal-again noFields x 0)
+
+-- no two answers are told by the same numbers, with the same numbers of a state then
+pub single-told-taken : (ns : List ℕ) (x y : program-taken.Taken) → toldTaken (paperTaken x) ≡ toldTaken (paperTaken y) → numbersThen ns (paperTaken x) ≡ numbersThen ns (paperTaken y) → x ≡ y
+single-told-taken ns x y told numbers = single-taken x y (sym (taken-again ns x) ∙ (λ i. takenBack (told i) (numbers i)) ∙ taken-again ns y)
