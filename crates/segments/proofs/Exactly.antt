@@ -17,14 +17,14 @@ use Rattle.types.proofs.Choices.{either}
 use Rattle.headers.specs.Header.{complex, rowOf}
 use Rattle.headers.specs.Bytes.{none, more, asNumber, asChoice}
 use Rattle.segments.specs.State.{State}
-use Rattle.segments.specs.Segment.{controlOf, idOf, sequenceOf, windowOf, choiceOf, partOf, tellsSegment, moreFollow}
-use Rattle.segments.specs.Taking.{After, after, refused, windowAllowed, sameAnswer, asDue, accepting, joining, afterOutcome, takes}
-use Rattle.segments.specs.Accepts.{Segment, bit, TellsSegment, IsSegment, ofBytes, GoesOn, Acceptable, joinedTo, IsAccepted}
+use Rattle.segments.specs.Segment.{controlOf, invokeIdOf, sequenceOf, windowOf, choiceOf, servicePart, tellsSegment, moreFollow}
+use Rattle.segments.specs.Taking.{After, after, refused, windowAllowed, sameAnswer, asDue, answerThen, joining, afterOutcome, takes}
+use Rattle.segments.specs.Accepts.{Segment, bit, TellsSegment, IsSegment, ofBytes, GoesOn, Takeable, joinedTo, IsTaken}
 use Rattle.segments.proofs.Tested.{by-outcome}
 
 -- what the bytes of a frame carry, be it a segment or not
 abbrev pub segmentIn : List ℕ → Segment
-segmentIn f = record { follow = moreFollow f; id = idOf f; sequence = sequenceOf f; window = windowOf f; service = choiceOf f; part = partOf f }
+segmentIn f = record { follow = moreFollow f; id = invokeIdOf f; sequence = sequenceOf f; window = windowOf f; service = choiceOf f; part = servicePart f }
 
 -- what the tests of a frame's bytes say where they pass
 record Passes (s : State) (f : List ℕ) : Type 0 where
@@ -33,7 +33,7 @@ record Passes (s : State) (f : List ℕ) : Type 0 where
   choice : choiceOf f ≤ 33
   least : 1 ≤ windowOf f
   most : windowOf f ≤ 127
-  same : s .begun ≡ true → (idOf f ≡ s .id) × (choiceOf f ≡ s .choice)
+  same : s .begun ≡ true → (invokeIdOf f ≡ s .id) × (choiceOf f ≡ s .choice)
   due : sequenceOf f ≡ s .due
 
 -- a test that is passed
@@ -69,7 +69,7 @@ as-due-cases s f P refuses accepts =
     either P (not (tellsSegment (controlOf f))) (λ t. refuses 17 _) (λ control.
     either P (ltb 33 (choiceOf f)) (λ t. refuses 11 _) (λ choice.
     either P (not (windowAllowed (windowOf f))) (λ t. refuses 24 _) (λ window.
-    either P (not (sameAnswer s (idOf f) (choiceOf f))) (λ t. refuses 25 _) (λ same.
+    either P (not (sameAnswer s (invokeIdOf f) (choiceOf f))) (λ t. refuses 25 _) (λ same.
     either P (not (eqb (sequenceOf f) (s .due))) (λ t. refuses 26 _) (λ due.
     let c = tells-so (controlOf f) (not-false _ control) in
     let w = allowed-so (windowOf f) (not-false _ window) in
@@ -79,7 +79,7 @@ as-due-cases s f P refuses accepts =
       choice = ltb-false 33 (choiceOf f) choice;
       least = w .0;
       most = w .1;
-      same = same-so s (idOf f) (choiceOf f) (not-false _ same);
+      same = same-so s (invokeIdOf f) (choiceOf f) (not-false _ same);
       due = eqb-true (sequenceOf f) (s .due) (not-false _ due);
     }))))))
 
@@ -137,15 +137,15 @@ one-segment g h f a b = told a .carried ∙ sym (told b .carried)
 
 module _ (s : State) (f xs : List ℕ) where
   -- what holds of each refusal, which leaves the buffer as it was, and of what a frame that is to be accepted comes to, holds of taking it
-  pub taken-cases : (P : After → Type 0) → ((n : ℕ) (c : Carried) → P (after (refused n c) xs)) → (Acceptable s f xs (segmentIn f) → P (joinedTo s (segmentIn f) xs)) → P (takes s f xs)
-  unfolding takes joining accepting
+  pub taken-cases : (P : After → Type 0) → ((n : ℕ) (c : Carried) → P (after (refused n c) xs)) → (Takeable s f xs (segmentIn f) → P (joinedTo s (segmentIn f) xs)) → P (takes s f xs)
+  unfolding takes joining answerThen
   taken-cases P refuses accepts =
       either P (s .finished) (λ t. refuses 27 _) (λ going.
       either P (ltb 65535 (length xs)) (λ t. refuses 1 _) (λ short.
       either P (ltb 65535 (length f)) (λ t. refuses 1 _) (λ frame.
       either P (ltb (length f) 5) (λ t. refuses 3 _) (λ five.
       as-due-cases s f (λ o. P (afterOutcome xs o (joining s f xs))) refuses (λ p.
-      either P (ltb (length xs) (s .held + length (partOf f))) (λ t. refuses 13 _) (λ room.
+      either P (ltb (length xs) (s .held + length (servicePart f))) (λ t. refuses 13 _) (λ room.
       accepts (record {
         short = ltb-false _ _ short;
         frame = ltb-false _ _ frame;
@@ -155,8 +155,8 @@ module _ (s : State) (f xs : List ℕ) where
       })))))))
 
   -- whatever is accepted was to be
-  pub accepted-only : IsAccepted (takes s f xs .answer) → Acceptable s f xs (segmentIn f)
-  accepted-only = taken-cases (λ a. IsAccepted (a .answer) → Acceptable s f xs (segmentIn f)) (λ n c i. absurd i) (λ a i. a)
+  pub accepted-only : IsTaken (takes s f xs .answer) → Takeable s f xs (segmentIn f)
+  accepted-only = taken-cases (λ a. IsTaken (a .answer) → Takeable s f xs (segmentIn f)) (λ n c i. absurd i) (λ a i. a)
 
   same-passes : (id choice : ℕ) → (s .begun ≡ true → (id ≡ s .id) × (choice ≡ s .choice)) → not (sameAnswer s id choice) ≡ false
   same-passes id choice same = go (s .begun) refl
@@ -165,16 +165,16 @@ module _ (s : State) (f xs : List ℕ) where
       go true e = simp (e, eq-eqb id (s .id) (same e .0), eq-eqb choice (s .choice) (same e .1))
       go false e = simp e
 
-  as-carried : Acceptable s f xs (segmentIn f) → takes s f xs ≡ joinedTo s (segmentIn f) xs
-  unfolding asDue joining accepting
+  as-carried : Takeable s f xs (segmentIn f) → takes s f xs ≡ joinedTo s (segmentIn f) xs
+  unfolding asDue joining answerThen
   as-carried a =
       let t = told (a .isSegment) in
       let g = a .goesOn in
       by-outcome s f xs (g .unfinished) (a .short) (a .frame) (t .five)
-      ∙ simp (t .segment, le-ltb 33 (choiceOf f) (t .choice), t .window, same-passes (idOf f) (choiceOf f) (g .same), eq-eqb (sequenceOf f) (s .due) (g .due), le-ltb (length xs) (s .held + length (partOf f)) (a .room))
+      ∙ simp (t .segment, le-ltb 33 (choiceOf f) (t .choice), t .window, same-passes (invokeIdOf f) (choiceOf f) (g .same), eq-eqb (sequenceOf f) (s .due) (g .due), le-ltb (length xs) (s .held + length (servicePart f)) (a .room))
 
   -- whatever is to be accepted is, as the segment that it is
-  pub accepted-so : (g : Segment) → Acceptable s f xs g → takes s f xs ≡ joinedTo s g xs
+  pub accepted-so : (g : Segment) → Takeable s f xs g → takes s f xs ≡ joinedTo s g xs
   accepted-so g a =
       let e = told (a .isSegment) .carried in
-      as-carried (subst (Acceptable s f xs) e a) ∙ ap (λ (h : Segment). joinedTo s h xs) (sym e)
+      as-carried (subst (Takeable s f xs) e a) ∙ ap (λ (h : Segment). joinedTo s h xs) (sym e)

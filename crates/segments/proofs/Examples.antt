@@ -6,7 +6,7 @@ use mathlib.Core.Bool.{true, false}
 use mathlib.Core.List.{List, [], _∷_, map}
 use Rattle.types.specs.Refusal.{amount}
 use Rattle.segments.specs.State.{State, state, firstState}
-use Rattle.segments.specs.Taking.{more, finished, refused, After, after, asDue, accepting, joining, takes}
+use Rattle.segments.specs.Taking.{more, finished, refused, After, after, asDue, answerThen, joining, takes}
 
 -- a state, a frame and a lent buffer
 pub record Asked : Type 0 where
@@ -66,5 +66,5 @@ answers =
     ∷ []
 
 pub taken-so : map (λ (a : Asked). takes (a .state) (a .frame) (a .buffer)) asked ≡ answers
-unfolding takes asDue joining accepting
+unfolding takes asDue joining answerThen
 taken-so = refl

@@ -11,10 +11,10 @@ use Rattle.types.specs.Writing.{over}
 use Rattle.types.proofs.Choices.{either}
 use Rattle.numbers.proofs.Wrote.{over-length}
 use Rattle.segments.specs.State.{State}
-use Rattle.segments.specs.Segment.{idOf, sequenceOf, choiceOf, partOf, moreFollow}
-use Rattle.segments.specs.Taking.{Taken, After, stateThen, takes}
-use Rattle.segments.specs.Accepts.{Segment, IsSegment, Acceptable, joinedTo}
-use Rattle.segments.specs.Calls.{onward, counting, Called, none, call, joined, Numbered, OfAnswer, ended, NoneBehindEnd}
+use Rattle.segments.specs.Segment.{invokeIdOf, sequenceOf, choiceOf, servicePart, moreFollow}
+use Rattle.segments.specs.Taking.{TakeAnswer, After, stateThen, takes}
+use Rattle.segments.specs.Accepts.{Segment, IsSegment, Takeable, joinedTo}
+use Rattle.segments.specs.Calls.{onward, counting, Called, none, call, partsJoined, InSequence, OfAnswer, lastCame, NoneBehindEnd}
 use Rattle.segments.proofs.Exactly.{segmentIn, taken-cases, accepted-so}
 
 -- some frame was accepted
@@ -25,13 +25,13 @@ some (f ∷ earlier) = true
 -- what is known after such calls
 record Known (fs : List (List ℕ)) (s : State) (xs : List ℕ) : Type 0 where
   inside : s .held ≤ length xs
-  all : s .held ≡ length (joined fs)
-  joins : take (s .held) xs ≡ joined fs
-  numbered : Numbered fs
+  all : s .held ≡ length (partsJoined fs)
+  joins : take (s .held) xs ≡ partsJoined fs
+  numbered : InSequence fs
   due : s .due ≡ length fs % 256
   begun : s .begun ≡ some fs
   ofAnswer : OfAnswer (s .id) (s .choice) fs
-  finishes : s .finished ≡ ended fs
+  finishes : s .finished ≡ lastCame fs
   none-behind : NoneBehindEnd fs
 
 -- a buffer that begins with the bytes held has them all
@@ -65,18 +65,18 @@ module _ {fs : List (List ℕ)} {s : State} {xs : List ℕ} (k : Known fs s xs) 
   }
 
   -- after a frame that is accepted its part is joined too
-  joins-on : Acceptable s f ys (segmentIn f) → Known (f ∷ fs) (stateThen f (s .held + length (partOf f))) (over ys (s .held) (partOf f))
+  joins-on : Takeable s f ys (segmentIn f) → Known (f ∷ fs) (stateThen f (s .held + length (servicePart f))) (over ys (s .held) (servicePart f))
   joins-on a =
       let i = still-inside (s .held) xs ys (k .inside) kept in
       let sequence : sequenceOf f ≡ length fs % 256 = a .goesOn .due ∙ k .due in
       record {
-        inside = omega (arith, over-length (partOf f) ys (s .held) (a .room), a .room);
-        all = omega (arith, length-append (joined fs) (partOf f), k .all);
-        joins = put-behind (s .held) (partOf f) ys i ∙ ap (λ (t : List ℕ). t ++ partOf f) (kept ∙ k .joins);
+        inside = omega (arith, over-length (servicePart f) ys (s .held) (a .room), a .room);
+        all = omega (arith, length-append (partsJoined fs) (servicePart f), k .all);
+        joins = put-behind (s .held) (servicePart f) ys i ∙ ap (λ (t : List ℕ). t ++ servicePart f) (kept ∙ k .joins);
         numbered = (sequence, k .numbered);
         due = omega arith;
         begun = refl;
-        ofAnswer = (refl, refl, of-same s (idOf f) (choiceOf f) fs (k .begun) (a .goesOn .same) (k .ofAnswer));
+        ofAnswer = (refl, refl, of-same s (invokeIdOf f) (choiceOf f) fs (k .begun) (a .goesOn .same) (k .ofAnswer));
         finishes = refl;
         none-behind = (sym (k .finishes) ∙ a .goesOn .unfinished, k .none-behind);
       }
@@ -86,7 +86,7 @@ module _ {fs : List (List ℕ)} {s : State} {xs : List ℕ} (k : Known fs s xs) 
   then-known =
       taken-cases s f ys (λ a. Known (counting f (a .answer) fs) (onward s (a .answer)) (a .buffer))
       (λ n c. stays)
-      (λ a. either (λ (t : Taken). Known (counting f t fs) (onward s t) (over ys (s .held) (partOf f))) (moreFollow f) (λ e. joins-on a) (λ e. joins-on a))
+      (λ a. either (λ (t : TakeAnswer). Known (counting f t fs) (onward s t) (over ys (s .held) (servicePart f))) (moreFollow f) (λ e. joins-on a) (λ e. joins-on a))
 
 known : {fs : List (List ℕ)} {s : State} {xs : List ℕ} → Called fs s xs → Known fs s xs
 known none = record { inside = omega arith; all = refl; joins = refl; numbered = tt; due = refl; begun = refl; ofAnswer = tt; finishes = refl; none-behind = tt }
@@ -94,14 +94,14 @@ known (call before f ys kept) = then-known (known before) f ys kept
 
 module _ {fs : List (List ℕ)} {s : State} {xs : List ℕ} (called : Called fs s xs) where
   -- the bytes held are the parts joined, and all of them
-  pub joined-parts : take (s .held) xs ≡ joined fs
+  pub joined-parts : take (s .held) xs ≡ partsJoined fs
   joined-parts = known called .joins
 
-  pub all-held : (s .held ≡ length (joined fs)) × (s .held ≤ length xs)
+  pub all-held : (s .held ≡ length (partsJoined fs)) × (s .held ≤ length xs)
   all-held = (known called .all, known called .inside)
 
   -- the n-th frame, counted from 0, has n modulo 256, and so will the next
-  pub each-sequence : Numbered fs × (s .due ≡ length fs % 256)
+  pub each-sequence : InSequence fs × (s .due ≡ length fs % 256)
   each-sequence = (known called .numbered, known called .due)
 
   -- all frames are of one answer
@@ -109,7 +109,7 @@ module _ {fs : List (List ℕ)} {s : State} {xs : List ℕ} (called : Called fs 
   one-answer = known called .ofAnswer
 
   -- finished exactly if the latest frame says that none follows, and none came behind such a one
-  pub finished-exactly : (s .finished ≡ ended fs) × NoneBehindEnd fs
+  pub finished-exactly : (s .finished ≡ lastCame fs) × NoneBehindEnd fs
   finished-exactly = (known called .finishes, known called .none-behind)
 
   of-first : (id choice : ℕ) (gs : List (List ℕ)) → OfAnswer id choice gs → OfAnswer (s .id) (s .choice) gs → some gs ≡ true → (id ≡ s .id) × (choice ≡ s .choice)
@@ -117,8 +117,8 @@ module _ {fs : List (List ℕ)} {s : State} {xs : List ℕ} (called : Called fs 
   of-first id choice (g ∷ gs) a b e = (sym (a .0) ∙ b .0, sym (a .1) ∙ b .1)
 
   -- whatever was refused, the frame that is due still goes on: a segment of the same answer, whose sequence number is how many came before it modulo 256, is accepted wherever there is room behind their parts
-  pub due-goes-on : (g : Segment) (f ys : List ℕ) → IsSegment g f → length f ≤ 65535 → length ys ≤ 65535 → ended fs ≡ false → OfAnswer (g .id) (g .service) fs → g .sequence ≡ length fs % 256
-      → length (joined fs) + length (g .part) ≤ length ys → takes s f ys ≡ joinedTo s g ys
+  pub due-goes-on : (g : Segment) (f ys : List ℕ) → IsSegment g f → length f ≤ 65535 → length ys ≤ 65535 → lastCame fs ≡ false → OfAnswer (g .id) (g .service) fs → g .sequence ≡ length fs % 256
+      → length (partsJoined fs) + length (g .part) ≤ length ys → takes s f ys ≡ joinedTo s g ys
   due-goes-on g f ys is frame short going same sequence room =
       let k = known called in
       accepted-so s f ys g (record {

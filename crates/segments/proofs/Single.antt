@@ -4,7 +4,7 @@ use mathlib.Core.Path.{_≡_, refl, ap}
 use Rattle.types.specs.Refusal.{row}
 use Rattle.types.proofs.Single.{told-apart, programRefusal, refusal-back}
 use Rattle.segments.specs.State.{State, stateOf}
-use Rattle.segments.specs.Taking.{Taken, more, finished, refused, paperTaken}
+use Rattle.segments.specs.Taking.{TakeAnswer, more, finished, refused, paperTaken}
 use Rattle.segments.specs.declared.state.State as program
 use Rattle.segments.specs.declared.taking.Taken as program-taken
 use Rattle.segments.specs.declared.taking.Taken.the-variants as t
@@ -19,7 +19,7 @@ state-back x = refl
 pub single-state : (x y : program.State) → stateOf x ≡ stateOf y → x ≡ y
 single-state = told-apart stateOf programState state-back
 
-abbrev taken : Taken → program-taken.Taken
+abbrev taken : TakeAnswer → program-taken.Taken
 taken (more s) = t.More (programState s)
 taken (finished s) = t.Finished (programState s)
 taken (refused k c) = t.Refused (programRefusal (row k c))

@@ -13,8 +13,8 @@ use Rattle.types.specs.Refusal.{amount}
 use Rattle.types.specs.Answer.{Answer, accepted, refused}
 use Rattle.types.specs.Writing.{can, Left, left, writeAnswer, writing}
 use Rattle.segments.specs.State.{State}
-use Rattle.segments.specs.Segment.{partOf}
-use Rattle.segments.specs.Taking.{After, after, accepting, asDue, joining, afterOutcome, takes}
+use Rattle.segments.specs.Segment.{servicePart}
+use Rattle.segments.specs.Taking.{After, after, answerThen, asDue, joining, afterOutcome, takes}
 use Rattle.segments.specs.Taking as taking
 
 -- then the bytes of the header decide, and after them the room
@@ -24,28 +24,28 @@ by-outcome s f xs going short frame five = simp (going, le-ltb 65535 (length xs)
 
 -- what a write of the part behind the bytes held answers and leaves, as taking the frame does
 abbrev pub asWritten : List ℕ → Answer (Unit {0}) → List ℕ → After
-asWritten f (accepted u held) ys = after (accepting f held) ys
+asWritten f (accepted u held) ys = after (answerThen f held) ys
 asWritten f (refused n c) ys = after (taking.refused n c) ys
 
 -- where no more is held than the buffer has, the part is put by such a write
 pub by-write : (s : State) (f xs : List ℕ) → length xs ≤ 65535 → length f ≤ 65535 → s .held ≤ length xs
-    → (a : Answer (Unit {0})) (ys : List ℕ) → left a ys ≡ writing (length (partOf f)) can (partOf f) xs (s .held) → asWritten f a ys ≡ joining s f xs
+    → (a : Answer (Unit {0})) (ys : List ℕ) → left a ys ≡ writing (length (servicePart f)) can (servicePart f) xs (s .held) → asWritten f a ys ≡ joining s f xs
 unfolding joining writing writeAnswer
-by-write s f xs short frame inside a ys e = ap (λ (l : Left). asWritten f (l .answer) (l .buffer)) e ∙ go (ltb (length xs) (s .held + length (partOf f))) refl
+by-write s f xs short frame inside a ys e = ap (λ (l : Left). asWritten f (l .answer) (l .buffer)) e ∙ go (ltb (length xs) (s .held + length (servicePart f))) refl
   where
-    part : length (partOf f) ≤ 65535
+    part : length (servicePart f) ≤ 65535
     part = omega (arith, length-drop 5 f)
 
-    go : (full : Bool) → ltb (length xs) (s .held + length (partOf f)) ≡ full
-        → (let w = writing (length (partOf f)) can (partOf f) xs (s .held) in asWritten f (w .answer) (w .buffer) ≡ joining s f xs)
-    go true b = simp (le-ltb 65535 (length xs) short, le-ltb 65535 (length (partOf f)) part, le-ltb (length xs) (s .held) inside, b)
-    go false b = simp (le-ltb 65535 (length xs) short, le-ltb 65535 (length (partOf f)) part, le-ltb (length xs) (s .held) inside, b)
+    go : (full : Bool) → ltb (length xs) (s .held + length (servicePart f)) ≡ full
+        → (let w = writing (length (servicePart f)) can (servicePart f) xs (s .held) in asWritten f (w .answer) (w .buffer) ≡ joining s f xs)
+    go true b = simp (le-ltb 65535 (length xs) short, le-ltb 65535 (length (servicePart f)) part, le-ltb (length xs) (s .held) inside, b)
+    go false b = simp (le-ltb 65535 (length xs) short, le-ltb 65535 (length (servicePart f)) part, le-ltb (length xs) (s .held) inside, b)
 
 -- and where more is held there is no room, not even for a part of no bytes
-pub no-room : (s : State) (f xs : List ℕ) → length xs < s .held → joining s f xs ≡ after (taking.refused 13 (amount (length (partOf f)))) xs
+pub no-room : (s : State) (f xs : List ℕ) → length xs < s .held → joining s f xs ≡ after (taking.refused 13 (amount (length (servicePart f)))) xs
 unfolding joining
-no-room s f xs over-held = simp (lt-ltb (length xs) (s .held + length (partOf f)) (omega arith))
+no-room s f xs over-held = simp (lt-ltb (length xs) (s .held + length (servicePart f)) (omega arith))
 
 -- the part is all that stands behind the header
-pub part-whole : (f : List ℕ) → take (length f - 5) (drop 5 f) ≡ partOf f
+pub part-whole : (f : List ℕ) → take (length f - 5) (drop 5 f) ≡ servicePart f
 part-whole f = take-all (length f - 5) (drop 5 f) (omega (arith, length-drop 5 f))

@@ -13,8 +13,8 @@ use Rattle.types.proofs.Choices.{either}
 use Rattle.numbers.proofs.Wrote.{Wrote}
 use Rattle.numbers.proofs.Untouched.{Around, around}
 use Rattle.segments.specs.State.{State}
-use Rattle.segments.specs.Segment.{partOf}
-use Rattle.segments.specs.Taking.{Taken, more, finished, refused, After, takes}
+use Rattle.segments.specs.Segment.{servicePart}
+use Rattle.segments.specs.Taking.{TakeAnswer, more, finished, refused, After, takes}
 use Rattle.segments.specs.Accepts.{stateAfter}
 use Rattle.segments.proofs.Exactly.{segmentIn, taken-cases}
 
@@ -24,13 +24,13 @@ module _ (s : State) (f xs : List ℕ) where
   refused-untouched n c =
       taken-cases s f xs (λ a. a .answer ≡ refused n c → a .buffer ≡ xs)
       (λ m d e. refl)
-      (λ a. either (λ (t : Taken). t ≡ refused n c → over xs (s .held) (partOf f) ≡ xs) (segmentIn f .follow)
+      (λ a. either (λ (t : TakeAnswer). t ≡ refused n c → over xs (s .held) (servicePart f) ≡ xs) (segmentIn f .follow)
       (λ b e. let z : _≡_ {A = ℕ} 0 1 = cc in absurd (omega arith))
       (λ b e. let z : _≡_ {A = ℕ} 0 1 = cc in absurd (omega arith)))
 
   -- no call changes a byte before the place where the part goes, nor one from behind it on
-  pub outside-untouched : Around xs (s .held) (s .held + length (partOf f)) (takes s f xs .buffer)
+  pub outside-untouched : Around xs (s .held) (s .held + length (servicePart f)) (takes s f xs .buffer)
   outside-untouched =
-      taken-cases s f xs (λ a. Around xs (s .held) (s .held + length (partOf f)) (a .buffer))
+      taken-cases s f xs (λ a. Around xs (s .held) (s .held + length (servicePart f)) (a .buffer))
       (λ n c. (refl, refl))
-      (λ a. around (partOf f) xs (s .held) (s .held + length (partOf f)) _ (record { small = a .short; room = a .room; ends = refl; buffer = refl }))
+      (λ a. around (servicePart f) xs (s .held) (s .held + length (servicePart f)) _ (record { small = a .short; room = a .room; ends = refl; buffer = refl }))

@@ -10,7 +10,7 @@ use Rattle.types.specs.Writing.{over}
 use Rattle.headers.specs.Header.{oneNumber, oneChoice, number, choice, complex, rowOf}
 use Rattle.headers.specs.Bytes.{AreFields}
 use Rattle.segments.specs.State.{State, state}
-use Rattle.segments.specs.Taking.{Taken, more, finished, refused, After, after}
+use Rattle.segments.specs.Taking.{TakeAnswer, more, finished, refused, After, after}
 
 -- a segment: whether more follow, its invoke id, sequence number, window and service choice, and its part of the service's bytes
 pub record Segment : Type 0 where
@@ -46,7 +46,7 @@ pub record GoesOn (s : State) (g : Segment) : Type 0 where
   pub due : g .sequence ≡ s .due
 
 -- a frame that is to be accepted as this segment: neither it nor the buffer is too long (else 1), it is a segment (3, 17, 11, 24), which goes on from the state (27, 25, 26), and there is room for its part behind the bytes held (13)
-pub record Acceptable (s : State) (f xs : List ℕ) (g : Segment) : Type 0 where
+pub record Takeable (s : State) (f xs : List ℕ) (g : Segment) : Type 0 where
   pub short : length xs ≤ 65535
   pub frame : length f ≤ 65535
   pub isSegment : IsSegment g f
@@ -62,7 +62,7 @@ abbrev pub joinedTo : State → Segment → List ℕ → After
 joinedTo s g xs = after (if (g .follow) (more (stateAfter s g)) (finished (stateAfter s g))) (over xs (s .held) (g .part))
 
 -- an answer that is no refusal
-abbrev pub IsAccepted : Taken → Type 0
-IsAccepted (more s) = Unit {0}
-IsAccepted (finished s) = Unit {0}
-IsAccepted (refused n c) = ⊥
+abbrev pub IsTaken : TakeAnswer → Type 0
+IsTaken (more s) = Unit {0}
+IsTaken (finished s) = Unit {0}
+IsTaken (refused n c) = ⊥

@@ -6,17 +6,17 @@ use mathlib.Core.Bool.{Bool, true, false, not}
 use mathlib.Core.List.{List, [], _∷_, _++_}
 use lib.ListN.{length, take}
 use Rattle.segments.specs.State.{State, firstState}
-use Rattle.segments.specs.Segment.{idOf, sequenceOf, choiceOf, partOf, moreFollow}
-use Rattle.segments.specs.Taking.{Taken, more, finished, refused, takes}
+use Rattle.segments.specs.Segment.{invokeIdOf, sequenceOf, choiceOf, servicePart, moreFollow}
+use Rattle.segments.specs.Taking.{TakeAnswer, more, finished, refused, takes}
 
 -- the state that the caller goes on with: the one answered or, after a refusal, the one that it had
-abbrev pub onward : State → Taken → State
+abbrev pub onward : State → TakeAnswer → State
 onward s (more t) = t
 onward s (finished t) = t
 onward s (refused n c) = s
 
 -- the frames accepted so far, the latest first: a refused one is none of them
-abbrev pub counting : List ℕ → Taken → List (List ℕ) → List (List ℕ)
+abbrev pub counting : List ℕ → TakeAnswer → List (List ℕ) → List (List ℕ)
 counting f (more t) fs = f ∷ fs
 counting f (finished t) fs = f ∷ fs
 counting f (refused n c) fs = fs
@@ -29,26 +29,26 @@ pub data Called : List (List ℕ) → State → List ℕ → Type 0 where
       → Called (counting f (takes s f ys .answer) fs) (onward s (takes s f ys .answer)) (takes s f ys .buffer)
 
 -- the parts of frames joined, in the order in which they came
-abbrev pub joined : List (List ℕ) → List ℕ
-joined [] = []
-joined (f ∷ earlier) = joined earlier ++ partOf f
+abbrev pub partsJoined : List (List ℕ) → List ℕ
+partsJoined [] = []
+partsJoined (f ∷ earlier) = partsJoined earlier ++ servicePart f
 
 -- each frame's sequence number is how many came before it, modulo 256
-abbrev pub Numbered : List (List ℕ) → Type 0
-Numbered [] = Unit {0}
-Numbered (f ∷ earlier) = (sequenceOf f ≡ length earlier % 256) × Numbered earlier
+abbrev pub InSequence : List (List ℕ) → Type 0
+InSequence [] = Unit {0}
+InSequence (f ∷ earlier) = (sequenceOf f ≡ length earlier % 256) × InSequence earlier
 
 -- all have this invoke id and this service choice
 abbrev pub OfAnswer : (id choice : ℕ) → List (List ℕ) → Type 0
 OfAnswer id choice [] = Unit {0}
-OfAnswer id choice (f ∷ earlier) = (idOf f ≡ id) × (choiceOf f ≡ choice) × OfAnswer id choice earlier
+OfAnswer id choice (f ∷ earlier) = (invokeIdOf f ≡ id) × (choiceOf f ≡ choice) × OfAnswer id choice earlier
 
 -- the latest says that none follows
-abbrev pub ended : List (List ℕ) → Bool
-ended [] = false
-ended (f ∷ earlier) = not (moreFollow f)
+abbrev pub lastCame : List (List ℕ) → Bool
+lastCame [] = false
+lastCame (f ∷ earlier) = not (moreFollow f)
 
 -- no frame came behind one that says that none follows
 abbrev pub NoneBehindEnd : List (List ℕ) → Type 0
 NoneBehindEnd [] = Unit {0}
-NoneBehindEnd (f ∷ earlier) = (ended earlier ≡ false) × NoneBehindEnd earlier
+NoneBehindEnd (f ∷ earlier) = (lastCame earlier ≡ false) × NoneBehindEnd earlier

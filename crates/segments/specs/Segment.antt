@@ -11,8 +11,8 @@ use Rattle.headers.specs.Header.{complex, rowOf}
 abbrev pub controlOf : List ℕ → ℕ
 controlOf f = getD f 0 0
 
-abbrev pub idOf : List ℕ → ℕ
-idOf f = getD f 1 0
+abbrev pub invokeIdOf : List ℕ → ℕ
+invokeIdOf f = getD f 1 0
 
 abbrev pub sequenceOf : List ℕ → ℕ
 sequenceOf f = getD f 2 0
@@ -24,8 +24,8 @@ abbrev pub choiceOf : List ℕ → ℕ
 choiceOf f = getD f 4 0
 
 -- the service's bytes that the frame has
-abbrev pub partOf : List ℕ → List ℕ
-partOf f = drop 5 f
+abbrev pub servicePart : List ℕ → List ℕ
+servicePart f = drop 5 f
 
 -- the control byte has the type of a complex acknowledgement, and its bit 3 says that this is a segment
 abbrev pub tellsSegment : ℕ → Bool

@@ -4,7 +4,7 @@ ghost use Prim.Native.Nat.{_≤_};
 ghost use lib.ListN.{length};
 ghost use Rattle.types.specs.Answer.{paperOutcome};
 ghost use Rattle.segments.specs.State.{stateOf};
-ghost use Rattle.segments.specs.Taking.{sameAnswer, asDue, accepting, joining, takes, after, paperTaken};
+ghost use Rattle.segments.specs.Taking.{sameAnswer, asDue, answerThen, joining, takes, after, paperTaken};
 use crate::state::State;
 use headers::confirmed_service_choice::AUDIT_LOG_QUERY;
 use types::Outcome;
@@ -108,7 +108,7 @@ fn join(state: State, frame: &[u8], buf: &mut [u8]) -> Taken
 // The answer to a frame that was taken, with so many bytes held then.
 fn accepted(frame: &[u8], held: usize) -> Taken
     requires { ⌜ 5 ≤ length (now frame) ⌝ }
-    ensures { λ r. ⌜ paperTaken r ≡ accepting (now (frame .entry)) held ⌝ }
+    ensures { λ r. ⌜ paperTaken r ≡ answerThen (now (frame .entry)) held ⌝ }
 {
     let more = frame[0] / 4 % 2 == 1;
     let state = State {

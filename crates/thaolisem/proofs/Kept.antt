@@ -12,8 +12,8 @@ use Rattle.tags.specs.Item.{booleanByte}
 use Rattle.numbers.specs.Integer.{Bytes}
 use Rattle.types.proofs.Choices.{either}
 use Rattle.segments.specs.State.{State}
-use Rattle.segments.specs.Segment.{idOf, choiceOf, moreFollow}
-use Rattle.segments.specs.Taking.{Taken, more, finished, refused}
+use Rattle.segments.specs.Segment.{invokeIdOf, choiceOf, moreFollow}
+use Rattle.segments.specs.Taking.{TakeAnswer, more, finished, refused}
 use Rattle.segments.specs.Accepts.{stateAfter}
 use Rattle.segments.proofs.Exactly.{segmentIn, taken-cases}
 use Rattle.thaolisem.specs.Named.{fitBytes}
@@ -34,7 +34,7 @@ named-again s id choice due =
     simp (le-ltb 1 _ (at-most-1 (s .begun)), le-ltb 1 _ (at-most-1 (s .finished)), le-ltb 255 _ id, le-ltb 255 _ choice, le-ltb 255 _ due, truth-back (s .begun), truth-back (s .finished))
 
 -- an answer whose state is named by its numbers
-abbrev pub StateNamed : Taken → Type 0
+abbrev pub StateNamed : TakeAnswer → Type 0
 StateNamed (more s) = stateNamed (stateNumbers s) ≡ some s
 StateNamed (finished s) = stateNamed (stateNumbers s) ≡ some s
 StateNamed (refused n c) = Unit {0}

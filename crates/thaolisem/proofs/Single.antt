@@ -68,7 +68,7 @@ use Rattle.headers.proofs.Control.{ofType, type-back}
 use Rattle.headers.proofs.Single.{ofFields, header-back, single-header-read}
 use Rattle.thaolisem.specs.Told.{toldRefusal, toldTag, toldUnsigned, toldSigned, toldBody, absenceTold, toldOptional, toldWalk, valueTold, toldValue, headerTold, toldHeader, toldCheck, toldWrite}
 use Rattle.segments.specs.State.{State, state, stateOf}
-use Rattle.segments.specs.Taking.{Taken, more, finished, paperTaken}
+use Rattle.segments.specs.Taking.{TakeAnswer, more, finished, paperTaken}
 use Rattle.segments.specs.Taking as segments
 use Rattle.segments.specs.declared.taking.Taken as program-taken
 use Rattle.segments.specs.declared.taking.Taken.the-variants as ta
@@ -353,11 +353,11 @@ state-again : (s : State) → stateIn (stateNumbers s) ≡ s
 state-again s = simp (truth-again (s .begun), truth-again (s .finished))
 
 -- what became of a frame, from its eight numbers and those of the state then
-abbrev takenIn : Answer (Unit {0}) → (outcome : ℕ) → State → Taken
+abbrev takenIn : Answer (Unit {0}) → (outcome : ℕ) → State → TakeAnswer
 takenIn (accepted a next) outcome s = if (eqb outcome 1) (more s) (finished s)
 takenIn (refused n c) outcome s = segments.refused n c
 
-abbrev takenBack : (told numbers : List ℕ) → Taken
+abbrev takenBack : (told numbers : List ℕ) → TakeAnswer
 takenBack l ns = takenIn (answer noFields l) (at l 2) (stateIn ns)
 
 taken-again : (ns : List ℕ) (x : program-taken.Taken) → takenBack (toldTaken (paperTaken x)) (numbersThen ns (paperTaken x)) ≡ paperTaken x

@@ -9,7 +9,7 @@ use Rattle.types.specs.Choice.{if}
 use Rattle.types.specs.Refusal.{amount}
 use Rattle.tags.specs.Item.{booleanByte}
 use Rattle.segments.specs.State.{State, state, stateOf}
-use Rattle.segments.specs.Taking.{Taken, more, finished, refused, After, after, takes}
+use Rattle.segments.specs.Taking.{TakeAnswer, more, finished, refused, After, after, takes}
 use Rattle.thaolisem.specs.Named.{ifAtMost, fitBytes}
 use Rattle.thaolisem.specs.Told.{eight, toldRefusal}
 use Rattle.thaolisem.specs.declared.segment.StateNamed as program
@@ -38,13 +38,13 @@ unfoldable pub takesNamed : (numbers frame buffer : List ℕ) → After
 takesNamed ns f xs = takesWith (stateNamed ns) f xs
 
 -- the numbers then: those of the state answered or, after a refusal, as they were
-abbrev pub numbersThen : List ℕ → Taken → List ℕ
+abbrev pub numbersThen : List ℕ → TakeAnswer → List ℕ
 numbersThen ns (more s) = stateNumbers s
 numbersThen ns (finished s) = stateNumbers s
 numbersThen ns (refused n c) = ns
 
 -- the eight numbers that tell the answer: the next place, which is the bytes held, 1 where more segments are to follow or 2, and the sequence number due
-abbrev pub toldTaken : Taken → List ℕ
+abbrev pub toldTaken : TakeAnswer → List ℕ
 toldTaken (more s) = eight 0 (s .held) 1 (s .due) 0 0 0 0
 toldTaken (finished s) = eight 0 (s .held) 2 (s .due) 0 0 0 0
 toldTaken (refused n c) = toldRefusal n c 0

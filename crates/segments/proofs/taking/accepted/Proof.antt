@@ -1,7 +1,7 @@
 -- `segments::accepted` meets its contract: bit 2 says which answer it is, and the sum wraps as the definition's does.
 -- Assumes nothing.
 use borrow.Author.Tests.{eq-eqb, ne-eqb}
-use Rattle.segments.specs.Taking.{accepting}
+use Rattle.segments.specs.Taking.{answerThen}
 use borrow.Author.Needs.{needs}
 use Rattle.segments.proofs.taking.accepted.Statement.{statement}
 use Rattle.segments.proofs.taking.accepted.Tie as tie
@@ -22,11 +22,11 @@ wrapping-add-u8-requires : tie.Need-wrapping-add-u8-requires
 wrapping-add-u8-requires c κs = search needs
 
 returns : tie.Need-returns
-unfolding accepting
+unfolding answerThen
 returns c = simp (c .if1 .taken, c .before .wrapping-add-u8 .ensures)
 
 returns-2 : tie.Need-returns-2
-unfolding accepting
+unfolding answerThen
 returns-2 c = simp (c .if1 .left, c .before .wrapping-add-u8 .ensures)
 
 pub accepted-spec : {M : Type 1} → statement M

@@ -4,7 +4,7 @@ use mathlib.Core.Path.{_≡_, _∙_, ap, sym}
 use mathlib.Core.Bool.{true, false, not}
 use borrow.Author.Tests.{eq-eqb, ne-eqb, lt-ltb, le-ltb}
 use Rattle.segments.specs.State.{stateOf}
-use Rattle.segments.specs.Segment.{controlOf, idOf, windowOf, choiceOf, tellsSegment}
+use Rattle.segments.specs.Segment.{controlOf, invokeIdOf, windowOf, choiceOf, tellsSegment}
 use Rattle.segments.specs.Taking.{windowAllowed, sameAnswer, asDue}
 use borrow.Author.Needs.{needs}
 use Rattle.segments.proofs.taking.as_due.Statement.{statement}
@@ -17,7 +17,7 @@ segment c = simp (eq-eqb _ _ (c .before .if1 .left), eq-eqb _ _ (c .if2 .left))
 window : (c : tie.Else5) → not (windowAllowed (windowOf (c .before .before .before .before .before .before .before .before .before .before .args .frame .now))) ≡ false
 window c = simp (le-ltb _ _ (c .before .if4 .left), le-ltb _ _ (c .if5 .left))
 
-same : (c : tie.Else6) → (let a = c .before .before .before .before .before .before .before .before .before .before .before .before .before .args in not (sameAnswer (stateOf (a .state)) (idOf (a .frame .now)) (choiceOf (a .frame .now))) ≡ false)
+same : (c : tie.Else6) → (let a = c .before .before .before .before .before .before .before .before .before .before .before .before .before .args in not (sameAnswer (stateOf (a .state)) (invokeIdOf (a .frame .now)) (choiceOf (a .frame .now))) ≡ false)
 same c = ap not (sym (c .before .same-answer .ensures)) ∙ c .if6 .left
 
 shared-slice-read-control : tie.Need-shared-slice-read-control
@@ -60,7 +60,7 @@ same-answer-requires c κs = search needs
 
 returns-6 : tie.Need-returns-6
 unfolding asDue
-returns-6 c = let a = c .before .before .before .before .before .before .before .before .before .before .before .before .before .args in let other : not (sameAnswer (stateOf (a .state)) (idOf (a .frame .now)) (choiceOf (a .frame .now))) ≡ true = ap not (sym (c .before .same-answer .ensures)) ∙ c .if6 .taken in simp (segment (c .before .before .before .before .before .before), le-ltb _ _ (c .before .before .before .before .before .if3 .left), window (c .before .before .before), other)
+returns-6 c = let a = c .before .before .before .before .before .before .before .before .before .before .before .before .before .args in let other : not (sameAnswer (stateOf (a .state)) (invokeIdOf (a .frame .now)) (choiceOf (a .frame .now))) ≡ true = ap not (sym (c .before .same-answer .ensures)) ∙ c .if6 .taken in simp (segment (c .before .before .before .before .before .before), le-ltb _ _ (c .before .before .before .before .before .if3 .left), window (c .before .before .before), other)
 
 returns-7 : tie.Need-returns-7
 unfolding asDue

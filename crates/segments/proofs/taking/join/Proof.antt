@@ -6,7 +6,7 @@ use Prim.Native.Nat.{ℕ}
 use Rattle.types.specs.Answer.{accepted}
 use Rattle.types.specs.Writing.{left, paperWritten}
 use Rattle.segments.specs.State.{stateOf}
-use Rattle.segments.specs.Taking.{Taken, after}
+use Rattle.segments.specs.Taking.{TakeAnswer, after}
 use Rattle.segments.proofs.Tested.{by-write, no-room, part-whole}
 use borrow.Author.Needs.{needs}
 use Rattle.segments.proofs.taking.join.Statement.{statement}
@@ -40,7 +40,7 @@ same-length : tie.Need-same-length
 same-length c = search needs
 
 returns-2 : tie.Need-returns-2
-returns-2 c = let a = c .before .before .before .before .before .before .before .before .before .before .before .before .before .args in let p = c .before .before .before .before .before .before .before .before .before .before .before .before .before .pre in let f = a .frame .now in let w = c .before .before .before .before .before .before .extend-from-slice in ap (λ (t : Taken). after t (w .last .1 .0)) (c .accepted .ensures) ∙ by-write (stateOf (a .state)) f (a .buf .now) (p .2) (p .1) (c .before .before .before .before .before .before .before .before .if1 .left) _ _ (rw (part-whole f) at (ap (λ r. left (paperWritten r) (w .last .1 .0)) (sym (c .before .before .held .given .1)) ∙ w .ensures))
+returns-2 c = let a = c .before .before .before .before .before .before .before .before .before .before .before .before .before .args in let p = c .before .before .before .before .before .before .before .before .before .before .before .before .before .pre in let f = a .frame .now in let w = c .before .before .before .before .before .before .extend-from-slice in ap (λ (t : TakeAnswer). after t (w .last .1 .0)) (c .accepted .ensures) ∙ by-write (stateOf (a .state)) f (a .buf .now) (p .2) (p .1) (c .before .before .before .before .before .before .before .before .if1 .left) _ _ (rw (part-whole f) at (ap (λ r. left (paperWritten r) (w .last .1 .0)) (sym (c .before .before .held .given .1)) ∙ w .ensures))
 
 same-length-2 : tie.Need-same-length-2
 same-length-2 c = search needs
