@@ -1,10 +1,10 @@
-// The port's answer in the words of the program replay, for what the original cannot be asked: writes, the walk, optional bodies, and object identifiers read.
+// The port's answer in the words of the program replay, for what the original cannot be asked: writes, segments, the walk, optional bodies, and object identifiers read.
 use crate::answer::Answer;
 use protocol::{put_hex, Read, Request};
 
 pub fn spoken(request: &Request, answer: &Answer) -> String {
     let numbers = answer.numbers.map(|number| number.unwrap_or(0));
-    let [refused, next, walked, a, b, count, ..] = numbers;
+    let [refused, next, first, a, b, count, ..] = numbers;
     match request {
         Request::Write { .. } => {
             let mut words = match refused {
@@ -14,8 +14,17 @@ pub fn spoken(request: &Request, answer: &Answer) -> String {
             put_hex(&answer.buffer, &mut words);
             words
         }
+        Request::Segments { .. } => {
+            let mut words = match (refused, first) {
+                (0, 1) => format!("more {next} {a} ; "),
+                (0, _) => format!("finished {next} {a} ; "),
+                _ => format!("refused {refused} {a} ; "),
+            };
+            put_hex(&answer.buffer, &mut words);
+            words
+        }
         Request::Read { what: Read::Walk, .. } => match refused {
-            0 => format!("ok {walked}"),
+            0 => format!("ok {first}"),
             _ => format!("refused {refused} {a} {count}"),
         },
         Request::Read { what: Read::OptionalBody { .. }, .. } => optional_body(numbers),

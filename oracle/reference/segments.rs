@@ -70,7 +70,7 @@ fn segment(frame: &[u8]) -> Result<Segment<'_>, Refusal> {
 
 // Whether a frame is the next one: 25 for another id or choice than the first's, then 26.
 fn follows(state: State, segment: &Segment) -> Result<(), Refusal> {
-    if state.first.is_some_and(|first| first != (segment.id, segment.choice)) {
+    if matches!(state.first, Some(first) if first != (segment.id, segment.choice)) {
         return refuse(25, 0);
     }
     if segment.sequence != state.due {

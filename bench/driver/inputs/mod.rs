@@ -2,6 +2,7 @@
 mod bodies;
 mod headers;
 mod integers;
+mod segments;
 mod tags;
 mod texts;
 mod values;
@@ -47,7 +48,14 @@ fn same(operation: &'static str, rows: &[(&str, &str)]) -> Vec<Input> {
 
 // All inputs, operation by operation.
 pub fn all() -> Vec<Input> {
-    let parts =
-        [tags::all(), integers::all(), bodies::all(), values::all(), texts::all(), headers::all()];
+    let parts = [
+        tags::all(),
+        integers::all(),
+        bodies::all(),
+        values::all(),
+        texts::all(),
+        headers::all(),
+        segments::all(),
+    ];
     parts.into_iter().flatten().collect()
 }

@@ -1,6 +1,7 @@
 // The port's side: the archive's functions, called as the C header says.
 mod fields;
 mod reads;
+mod segments;
 mod writes;
 
 use crate::answer::Answer;
@@ -16,6 +17,11 @@ pub fn ask(request: &Request, count: u64) -> Answer {
         Request::Write { what, place, capacity } => {
             let mut buf = vec![0xAA; *capacity];
             let numbers = writes::write(what, &mut buf, *place, count);
+            Answer::new(numbers, buf)
+        }
+        Request::Segments { capacity, calls } => {
+            let mut buf = vec![0xAA; *capacity];
+            let numbers = segments::take(calls, &mut buf, count);
             Answer::new(numbers, buf)
         }
     }
