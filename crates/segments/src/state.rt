@@ -3,12 +3,13 @@ ghost use mathlib.Core.Path.{_≡_};
 ghost use Rattle.segments.specs.State.{firstState, stateOf};
 
 // Whether a frame was taken, and whether the last one; the first frame's invoke id and service choice; the sequence number due; and how many bytes are held at the buffer's start.
+// The numbers are as wide as those that a caller in C lends, so that each is compared as it is: one that is no byte is no frame's.
 pub struct State {
     pub begun: bool,
     pub finished: bool,
-    pub id: u8,
-    pub choice: u8,
-    pub due: u8,
+    pub id: u64,
+    pub choice: u64,
+    pub due: u64,
     pub held: usize,
 }
 
@@ -26,4 +27,11 @@ impl State {
             held: 0,
         }
     }
+}
+
+// A frame's byte, as wide as the numbers of a state.
+pub(crate) fn wide(byte: u8) -> u64
+    ensures { λ r. ⌜ r ≡ byte ⌝ }
+{
+    byte as u64
 }

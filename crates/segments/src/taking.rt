@@ -6,6 +6,7 @@ ghost use Rattle.types.specs.Answer.{paperOutcome};
 ghost use Rattle.segments.specs.State.{stateOf};
 ghost use Rattle.segments.specs.Taking.{sameAnswer, asDue, answerThen, joining, takes, after, paperTaken};
 use crate::state::State;
+use crate::state::wide;
 use headers::confirmed_service_choice::AUDIT_LOG_QUERY;
 use types::Outcome;
 use types::Refusal;
@@ -73,7 +74,7 @@ fn as_due(state: State, frame: &[u8]) -> Outcome
     if !same_answer(state, frame[1], choice) {
         return Outcome::Refused(Refusal::OtherIdOrChoice);
     }
-    if sequence != state.due {
+    if wide(sequence) != state.due {
         return Outcome::Refused(Refusal::OtherSequence);
     }
     Outcome::Passed
@@ -84,7 +85,7 @@ fn same_answer(state: State, id: u8, choice: u8) -> bool
     ensures { λ r. ⌜ r ≡ sameAnswer (stateOf state) id choice ⌝ }
 {
     if state.begun {
-        id == state.id && choice == state.choice
+        wide(id) == state.id && wide(choice) == state.choice
     } else {
         true
     }
@@ -114,9 +115,9 @@ fn accepted(frame: &[u8], held: usize) -> Taken
     let state = State {
         begun: true,
         finished: !more,
-        id: frame[1],
-        choice: frame[4],
-        due: std::num::wrapping_add_u8(frame[2], 1),
+        id: wide(frame[1]),
+        choice: wide(frame[4]),
+        due: wide(std::num::wrapping_add_u8(frame[2], 1)),
         held,
     };
     if more {

@@ -1,4 +1,3 @@
 pub mod Written
 pub mod Single
 pub mod Fitting
-pub mod Kept

@@ -3,7 +3,7 @@
 use mathlib.Core.Path.{_≡_, refl, sym, ap, _∙_}
 use native.Mathlib.Omega.{arith}
 use Prim.Native.Nat.{ℕ, _-_, _*_, _^_, _<_, _≤_}
-use mathlib.Core.Bool.{Bool, true, false}
+use mathlib.Core.Bool.{Bool, true, false, not}
 use mathlib.Core.List.{List}
 use borrow.Author.Tests.{lt-ltb, le-ltb, ne-eqb}
 use lib.Dec.{eqb}
@@ -67,13 +67,13 @@ use Rattle.headers.specs.declared.reading.HeaderRead.the-variants as hr
 use Rattle.headers.proofs.Control.{ofType, type-back}
 use Rattle.headers.proofs.Single.{ofFields, header-back, single-header-read}
 use Rattle.thaolisem.specs.Told.{toldRefusal, toldTag, toldUnsigned, toldSigned, toldBody, absenceTold, toldOptional, toldWalk, valueTold, toldValue, headerTold, toldHeader, toldCheck, toldWrite}
-use Rattle.segments.specs.State.{State, state, stateOf}
+use Rattle.segments.specs.State.{State, stateOf}
 use Rattle.segments.specs.Taking.{TakeAnswer, more, finished, paperTaken}
 use Rattle.segments.specs.Taking as segments
 use Rattle.segments.specs.declared.taking.Taken as program-taken
 use Rattle.segments.specs.declared.taking.Taken.the-variants as ta
 use Rattle.segments.proofs.Single.{single-taken}
-use Rattle.thaolisem.specs.Segment.{stateNumbers, numbersThen, toldTaken}
+use Rattle.thaolisem.specs.Segment.{stateIn, stateNumbers, numbersThen, toldTaken}
 
 -- what can be told back from its numbers is told apart by them
 apart : {A B : Type 0} (told : A → B) (back : B → A) (x y : A) → back (told x) ≡ x → back (told y) ≡ y → told x ≡ told y → x ≡ y
@@ -341,16 +341,13 @@ write-again (w.Refused x) = refusal-again writeFields x 0
 pub single-told-write : (x y : Written) → toldWrite (paperWritten x) ≡ toldWrite (paperWritten y) → x ≡ y
 single-told-write x y e = single-written x y (apart toldWrite writeBack (paperWritten x) (paperWritten y) (write-again x) (write-again y) e)
 
--- a state is known from its numbers
-abbrev stateIn : List ℕ → State
-stateIn ns = state (eqb (at ns 0) 1) (eqb (at ns 1) 1) (at ns 2) (at ns 3) (at ns 4) (at ns 5)
-
-truth-again : (b : Bool) → eqb (booleanByte b) 1 ≡ b
-truth-again true = refl
-truth-again false = refl
-
-state-again : (s : State) → stateIn (stateNumbers s) ≡ s
+-- a state is known from its numbers, so the next call goes on from the one that this call led to
+pub state-again : (s : State) → stateIn (stateNumbers s) ≡ s
 state-again s = simp (truth-again (s .begun), truth-again (s .finished))
+  where
+    truth-again : (b : Bool) → not (eqb (booleanByte b) 0) ≡ b
+    truth-again true = refl
+    truth-again false = refl
 
 -- what became of a frame, from its eight numbers and those of the state then
 abbrev takenIn : Answer (Unit {0}) → (outcome : ℕ) → State → TakeAnswer

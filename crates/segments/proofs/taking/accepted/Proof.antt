@@ -1,6 +1,5 @@
 -- `segments::accepted` meets its contract: bit 2 says which answer it is, and the sum wraps as the definition's does.
 -- Assumes nothing.
-use borrow.Author.Tests.{eq-eqb, ne-eqb}
 use Rattle.segments.specs.Taking.{answerThen}
 use borrow.Author.Needs.{needs}
 use Rattle.segments.proofs.taking.accepted.Statement.{statement}
@@ -9,11 +8,17 @@ use Rattle.segments.proofs.taking.accepted.Tie as tie
 shared-slice-read-more : tie.Need-shared-slice-read-more
 shared-slice-read-more c = search needs
 
-shared-slice-read-t6 : tie.Need-shared-slice-read-t6
-shared-slice-read-t6 c = search needs
+shared-slice-read-wide : tie.Need-shared-slice-read-wide
+shared-slice-read-wide c = search needs
 
-shared-slice-read-t8 : tie.Need-shared-slice-read-t8
-shared-slice-read-t8 c = search needs
+wide-requires : tie.Need-wide-requires
+wide-requires c κs = search needs
+
+shared-slice-read-wide-2 : tie.Need-shared-slice-read-wide-2
+shared-slice-read-wide-2 c = search needs
+
+wide-requires-2 : tie.Need-wide-requires-2
+wide-requires-2 c κs = search needs
 
 shared-slice-read-wrapping-add-u8 : tie.Need-shared-slice-read-wrapping-add-u8
 shared-slice-read-wrapping-add-u8 c = search needs
@@ -21,22 +26,28 @@ shared-slice-read-wrapping-add-u8 c = search needs
 wrapping-add-u8-requires : tie.Need-wrapping-add-u8-requires
 wrapping-add-u8-requires c κs = search needs
 
+wide-requires-3 : tie.Need-wide-requires-3
+wide-requires-3 c κs = search needs
+
 returns : tie.Need-returns
 unfolding answerThen
-returns c = simp (c .if1 .taken, c .before .wrapping-add-u8 .ensures)
+returns c = simp (c .if1 .taken, c .before .wide3 .ensures, c .before .before .wrapping-add-u8 .ensures, c .before .before .before .before .wide2 .ensures, c .before .before .before .before .before .before .wide .ensures)
 
 returns-2 : tie.Need-returns-2
 unfolding answerThen
-returns-2 c = simp (c .if1 .left, c .before .wrapping-add-u8 .ensures)
+returns-2 c = simp (c .if1 .left, c .before .wide3 .ensures, c .before .before .wrapping-add-u8 .ensures, c .before .before .before .before .wide2 .ensures, c .before .before .before .before .before .before .wide .ensures)
 
 pub accepted-spec : {M : Type 1} → statement M
 accepted-spec =
     tie.close
     (tie.spec
     shared-slice-read-more
-    shared-slice-read-t6
-    shared-slice-read-t8
+    shared-slice-read-wide
+    wide-requires
+    shared-slice-read-wide-2
+    wide-requires-2
     shared-slice-read-wrapping-add-u8
     wrapping-add-u8-requires
+    wide-requires-3
     returns
     returns-2)

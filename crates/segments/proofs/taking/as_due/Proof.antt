@@ -62,13 +62,16 @@ returns-6 : tie.Need-returns-6
 unfolding asDue
 returns-6 c = let a = c .before .before .before .before .before .before .before .before .before .before .before .before .before .args in let other : not (sameAnswer (stateOf (a .state)) (invokeIdOf (a .frame .now)) (choiceOf (a .frame .now))) ≡ true = ap not (sym (c .before .same-answer .ensures)) ∙ c .if6 .taken in simp (segment (c .before .before .before .before .before .before), le-ltb _ _ (c .before .before .before .before .before .if3 .left), window (c .before .before .before), other)
 
+wide-requires : tie.Need-wide-requires
+wide-requires c κs = search needs
+
 returns-7 : tie.Need-returns-7
 unfolding asDue
-returns-7 c = simp (segment (c .before .before .before .before .before .before .before .before), le-ltb _ _ (c .before .before .before .before .before .before .before .if3 .left), window (c .before .before .before .before .before), same (c .before .before), ne-eqb _ _ (c .if7 .taken))
+returns-7 c = simp (segment (c .before .before .before .before .before .before .before .before .before), le-ltb _ _ (c .before .before .before .before .before .before .before .before .if3 .left), window (c .before .before .before .before .before .before), same (c .before .before .before), ne-eqb _ _ (λ e. c .if7 .taken (c .before .before .wide .ensures ∙ e)))
 
 returns-8 : tie.Need-returns-8
 unfolding asDue
-returns-8 c = simp (segment (c .before .before .before .before .before .before .before .before), le-ltb _ _ (c .before .before .before .before .before .before .before .if3 .left), window (c .before .before .before .before .before), same (c .before .before), eq-eqb _ _ (c .if7 .left))
+returns-8 c = simp (segment (c .before .before .before .before .before .before .before .before .before), le-ltb _ _ (c .before .before .before .before .before .before .before .before .if3 .left), window (c .before .before .before .before .before .before), same (c .before .before .before), eq-eqb _ _ (sym (c .before .before .wide .ensures) ∙ c .if7 .left))
 
 pub as-due-spec : {M : Type 1} → statement M
 as-due-spec =
@@ -86,5 +89,6 @@ as-due-spec =
     shared-slice-read-same-answer
     same-answer-requires
     returns-6
+    wide-requires
     returns-7
     returns-8)
