@@ -157,12 +157,8 @@ static void take(const uint8_t *bytes, size_t len) {
     thaolisem_take_segment(state, bytes, len, buf, sizeof buf, answer);
 }
 
-/* Three frames of invoke id 5 and choice 14, with parts of 3, 4 and 1 bytes; between them and behind them what each of 24 to 27 refuses, and before all a state that is none. */
+/* Three frames of invoke id 5 and choice 14, with parts of 3, 4 and 1 bytes; between them and behind them what each of 24 to 27 refuses. */
 static void segments(void) {
-    state[THAOLISEM_STATE_BEGUN] = 2;
-    take(BYTES(0x3C, 5, 0, 4, 14));
-    refused(THAOLISEM_CANNOT_BE_WRITTEN, 0);
-    state[THAOLISEM_STATE_BEGUN] = 0;
     take(BYTES(0x3C, 5, 0, 4, 14, 7, 8, 9));
     accepted(3);
     take(BYTES(0x3C, 5, 1, 128, 14, 6));

@@ -32,7 +32,7 @@
    NaN: the bits of a Real or Double are kept, read or written, unless they are a NaN's. Every NaN
    is read as 7FC00000 or 7FF8000000000000, and written so, whatever its sign and payload were.
 
-   All that gives 12, each in a write but the last:
+   All that gives 12, each in a write:
      tag         a class that is not 1 to 4; an application number above 15;
                  an opening or a closing with a value that is not 0
      integer     a class that is not 1 or 2
@@ -46,8 +46,6 @@
      Enumerated  as a value, one above 4,294,967,295
      header      a kind that is not 0, 2, 3 or 4; segments or size of a request above 15; another
                  field above 255 (a service choice of 34 to 255 gives 11)
-     state       of segments: begun or finished above 1; an invoke id, a service choice or a sequence
-                 due above 255
 
    A read tests 1, then 2, then what the bytes tell as they come; a write tests 1, 2, 12, then 11 or
    10, then 13. A refused write changes no byte of the buffer; one that is accepted changes only the
@@ -55,10 +53,12 @@
 
    An answer in segments is taken frame by frame. Between the calls the caller keeps its state, eight
    numbers that are all 0 before the first frame, and the bytes held, at the start of a lent buffer. A
-   frame tests 12, 27, 1 (for the buffer, then for the frame), 3, 17, 11, 24, 25, 26, then 13. A refused
+   frame tests 27, 1 (for the buffer, then for the frame), 3, 17, 11, 24, 25, 26, then 13. A refused
    frame changes no number of the state and no byte of the buffer; one that is accepted changes only the
    bytes behind those held before, as many as its part has. The buffer may be another at each call, or
    longer: where the bytes held stand at its start as they were left, they are the accepted parts joined.
+   Any eight numbers are a state: begun and finished are so by any number but 0, and the others are
+   compared as they are, so that one that is no byte is no frame's (25, 26).
 
    The caller answers for what C cannot say: a pointer is not null, also with a length of 0; so many
    bytes can be read there, in `buf` of a writer or of segments written too; `answer` has room for eight
@@ -137,7 +137,7 @@ enum {
     THAOLISEM_OTHER_CHARACTER_SET = 9,       /* character set not 0: the set */
     THAOLISEM_TEXT_NOT_UTF8 = 10,            /* text not UTF-8: the first bad place, from the text's start */
     THAOLISEM_SERVICE_CHOICE_TOO_LARGE = 11, /* service choice above 33: the choice */
-    THAOLISEM_CANNOT_BE_WRITTEN = 12,        /* the numbers name nothing that can be written, or are no state: 0 */
+    THAOLISEM_CANNOT_BE_WRITTEN = 12,        /* the numbers name nothing that can be written: 0 */
     THAOLISEM_NO_ROOM = 13,                  /* no room: the length of the whole write, for a segment of its part */
     THAOLISEM_ALLOWANCE_SPENT = 14,          /* allowance spent: the tags read */
     THAOLISEM_CLOSING_WITHOUT_OPENING = 15,  /* a closing tag without its opening: its place */
@@ -223,8 +223,8 @@ enum {
 
 /* Places of the eight numbers of a state of segments; the last two are not read, and 0 after every accepted frame. */
 enum {
-    THAOLISEM_STATE_BEGUN = 0,    /* 0, or 1 once a frame was accepted */
-    THAOLISEM_STATE_FINISHED = 1, /* 0, or 1 once the last was accepted */
+    THAOLISEM_STATE_BEGUN = 0,    /* 0, and 1 once a frame was accepted */
+    THAOLISEM_STATE_FINISHED = 1, /* 0, and 1 once the last was accepted */
     THAOLISEM_STATE_ID = 2,       /* the first frame's invoke id */
     THAOLISEM_STATE_CHOICE = 3,   /* the first frame's service choice */
     THAOLISEM_STATE_DUE = 4,      /* the sequence number due */
@@ -288,7 +288,7 @@ void thaolisem_encode_header(uint8_t kind, uint64_t a, uint64_t b, uint64_t c, u
 
 /* Answers in segments, frame by frame. */
 
-/* Takes one whole frame of a complex acknowledgement in segments: its part, the service bytes behind the choice, goes behind the bytes held in `buf`, and the state becomes the one after it. THAOLISEM_MORE, or THAOLISEM_FINISHED with the last frame. Refused 12, 27, 1, 3, 17, 11, 24, 25, 26, 13. */
+/* Takes one whole frame of a complex acknowledgement in segments: its part, the service bytes behind the choice, goes behind the bytes held in `buf`, and the state becomes the one after it. THAOLISEM_MORE, or THAOLISEM_FINISHED with the last frame. Refused 27, 1, 3, 17, 11, 24, 25, 26, 13. */
 void thaolisem_take_segment(uint64_t state[8], const uint8_t *frame, size_t frame_len, uint8_t *buf, size_t len, uint64_t answer[8]);
 
 #ifdef __cplusplus

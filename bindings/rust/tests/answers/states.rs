@@ -71,18 +71,19 @@ fn each_refusal_leaves_the_numbers() {
 }
 
 #[test]
-fn numbers_that_are_no_state() {
-    for (place, most) in [(0, 1), (1, 1), (2, 255), (3, 255), (4, 255)] {
-        for number in [most + 1, 256, 257, 1 << 32 | 1, u64::MAX] {
-            refuses(with(place, number), 12, 0);
-        }
+fn numbers_that_are_no_byte_and_no_bit() {
+    // compared as they are, also where their low byte is the frame's
+    for more in [1 << 8, 1 << 16, 1 << 32, 1 << 63] {
+        refuses(with(2, DUE[2] + more), 25, 0);
+        refuses(with(3, DUE[3] + more), 25, 0);
+        refuses(with(4, DUE[4] + more), 26, 0);
     }
-    // before 27, and before 1
-    refuses([1, 1, 256, 12, 3, 3, 0, 0], 12, 0);
-    let (mut state, mut long) = ([2; 8], vec![0xAA; 65_536]);
-    let told = take_segment(&mut state, &FRAME, &mut long);
-    assert_eq!((told, state), ([12, 0, 0, 0, 0, 0, 0, 0], [2; 8]));
-    assert!(long.iter().all(|byte| *byte == 0xAA));
+    // any but 0 says that it is so
+    for number in [2, 1 << 8, 1 << 32, u64::MAX] {
+        leads_to(with(0, number), [1, 0, 1, 12, 4, 5, 0, 0]);
+        refuses_frame([number, 0, 1, 12, 3, 3, 0, 0], &[0x3C, 2, 3, 4, 12, 7, 8], 25, 0);
+        refuses(with(1, number), 27, 0);
+    }
 }
 
 #[test]
