@@ -112,12 +112,13 @@ fn accepted(frame: &[u8], held: usize) -> Taken
     ensures { λ r. ⌜ paperTaken r ≡ answerThen (now (frame .entry)) held ⌝ }
 {
     let more = frame[0] / 4 % 2 == 1;
+    let taken = frame[2];
     let state = State {
         begun: true,
         finished: !more,
         id: wide(frame[1]),
         choice: wide(frame[4]),
-        due: wide(std::num::wrapping_add_u8(frame[2], 1)),
+        due: wide(std::num::wrapping_add_u8(taken, 1)),
         held,
     };
     if more {
