@@ -20,7 +20,7 @@ from trying import Scratch
 from world import World
 
 ROOT = pathlib.Path(__file__).resolve().parents[2]
-CRATES = ("types", "numbers", "tags", "bodies", "walk", "utf8", "values", "headers", "lines", "text", "dump", "thaolisem")
+CRATES = ("types", "numbers", "tags", "bodies", "walk", "utf8", "values", "headers", "segments", "lines", "text", "dump", "thaolisem")
 
 
 def part_of(mutants, part):
