@@ -1,25 +1,23 @@
 -- A frame is accepted exactly if it is a segment that goes on from the state and has room: the executable and the declarative definition agree, for every state, frame and buffer.
 -- Assumes nothing.
 use mathlib.Core.Path.{_≡_, refl, _∙_, ap, sym, subst}
-use mathlib.Core.Logic.{_↔_}
 use Prim.Native.Nat.{ℕ, _+_, _/_, _%_, _≤_, _<_}
 use native.Mathlib.Omega.{arith}
 use mathlib.Core.Bool.{Bool, true, false, not}
 use mathlib.Core.List.{List, [], _∷_}
 use lib.ListN.{length}
 use lib.Dec.{ltb, eqb}
-use borrow.Author.Tests.{lt-ltb, le-ltb, ltb-false, eq-eqb, eqb-true, eqb-false}
+use borrow.Author.Tests.{le-ltb, ltb-false, eq-eqb, eqb-true, eqb-false}
 use Rattle.types.specs.Choice.{if}
-use Rattle.types.specs.Refusal.{Carried, amount}
+use Rattle.types.specs.Refusal.{Carried}
 use Rattle.types.specs.Answer.{Outcome, passed, stopped}
-use Rattle.types.specs.Writing.{over}
 use Rattle.types.proofs.Choices.{either}
 use Rattle.headers.specs.Header.{complex, rowOf}
 use Rattle.headers.specs.Bytes.{none, more, asNumber, asChoice}
 use Rattle.segments.specs.State.{State}
 use Rattle.segments.specs.Segment.{controlOf, invokeIdOf, sequenceOf, windowOf, choiceOf, servicePart, tellsSegment, moreFollow}
 use Rattle.segments.specs.Taking.{After, after, refused, windowAllowed, sameAnswer, asDue, answerThen, joining, afterOutcome, takes}
-use Rattle.segments.specs.Accepts.{Segment, bit, TellsSegment, IsSegment, ofBytes, GoesOn, Takeable, joinedTo, IsTaken}
+use Rattle.segments.specs.Accepts.{Segment, bit, IsSegment, ofBytes, Takeable, joinedTo, IsTaken}
 use Rattle.segments.proofs.Tested.{by-outcome}
 
 -- what the bytes of a frame carry, be it a segment or not

@@ -1,6 +1,6 @@
 -- Calls one after the other from the first state on: whatever was refused between them, what is held is the parts of the accepted frames joined, and the state tells the rest.
 -- Assumes nothing.
-use mathlib.Core.Path.{_≡_, refl, _∙_, ap, sym, subst}
+use mathlib.Core.Path.{_≡_, refl, _∙_, ap, sym}
 use Prim.Native.Nat.{ℕ, _+_, _%_, _≤_}
 use native.Mathlib.Omega.{arith}
 use mathlib.Core.Bool.{Bool, true, false}
@@ -12,7 +12,7 @@ use Rattle.types.proofs.Choices.{either}
 use Rattle.numbers.proofs.Wrote.{over-length}
 use Rattle.segments.specs.State.{State}
 use Rattle.segments.specs.Segment.{invokeIdOf, sequenceOf, choiceOf, servicePart, moreFollow}
-use Rattle.segments.specs.Taking.{TakeAnswer, After, stateThen, takes}
+use Rattle.segments.specs.Taking.{TakeAnswer, stateThen, takes}
 use Rattle.segments.specs.Accepts.{Segment, IsSegment, Takeable, joinedTo}
 use Rattle.segments.specs.Calls.{onward, counting, Called, none, call, partsJoined, InSequence, OfAnswer, lastCame, NoneBehindEnd}
 use Rattle.segments.proofs.Exactly.{segmentIn, taken-cases, accepted-so}

@@ -3,19 +3,15 @@
 use mathlib.Core.Path.{_≡_, refl}
 use Prim.Native.Nat.{ℕ, _+_}
 use native.Mathlib.Omega.{arith}
-use mathlib.Core.Bool.{Bool, true, false}
 use mathlib.Core.List.{List}
 use lib.ListN.{length}
-use Rattle.types.specs.Choice.{if}
 use Rattle.types.specs.Refusal.{Carried}
 use Rattle.types.specs.Writing.{over}
 use Rattle.types.proofs.Choices.{either}
-use Rattle.numbers.proofs.Wrote.{Wrote}
 use Rattle.numbers.proofs.Untouched.{Around, around}
 use Rattle.segments.specs.State.{State}
 use Rattle.segments.specs.Segment.{servicePart}
-use Rattle.segments.specs.Taking.{TakeAnswer, more, finished, refused, After, takes}
-use Rattle.segments.specs.Accepts.{stateAfter}
+use Rattle.segments.specs.Taking.{TakeAnswer, refused, takes}
 use Rattle.segments.proofs.Exactly.{segmentIn, taken-cases}
 
 module _ (s : State) (f xs : List ℕ) where

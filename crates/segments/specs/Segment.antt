@@ -1,7 +1,7 @@
 -- A segment of a complex acknowledgement (ASHRAE 135, 20.1.5, with segmented-message true): a control byte, then original-invokeID, sequence-number, proposed-window-size and service-ACK-choice, a byte each, and then its part of the service's bytes.
 -- Assumes nothing.
 use Prim.Native.Nat.{ℕ, _/_, _%_}
-use mathlib.Core.Bool.{Bool, true, false}
+use mathlib.Core.Bool.{Bool, false}
 use mathlib.Core.List.{List}
 use lib.ListN.{getD, drop}
 use lib.Dec.{eqb}

@@ -1,8 +1,6 @@
 -- `segments::join` meets its contract: the part is put by a write behind the bytes held, where no more are held than the buffer has.
 -- Assumes nothing.
 use mathlib.Core.Path.{sym, ap, _∙_}
-use mathlib.Core.List.{List}
-use Prim.Native.Nat.{ℕ}
 use Rattle.types.specs.Answer.{accepted}
 use Rattle.types.specs.Writing.{left, paperWritten}
 use Rattle.segments.specs.State.{stateOf}

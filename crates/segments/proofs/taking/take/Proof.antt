@@ -1,6 +1,6 @@
 -- `segments::take` meets its contract: at each return the tests before it, and what `as_due` and `join` answer, say which case of `takes` holds.
 -- Assumes nothing.
-use mathlib.Core.Path.{_≡_, sym, ap, _∙_}
+use mathlib.Core.Path.{sym, ap, _∙_}
 use borrow.Author.Tests.{lt-ltb, le-ltb}
 use Rattle.types.specs.Answer.{Outcome, paperOutcome}
 use Rattle.segments.specs.State.{stateOf}

@@ -1,6 +1,6 @@
 -- `thaolisem::thaolisem_take_segment` meets its contract: in each arm what became of the frame is known, and it is told.
 -- Assumes nothing.
-use mathlib.Core.Path.{_≡_, sym, ap, _∙_}
+use mathlib.Core.Path.{sym, ap, _∙_}
 use Rattle.segments.specs.State.{State}
 use Rattle.segments.specs.Taking.{After, after, takes, paperTaken}
 use Rattle.segments.specs.declared.taking.Taken as program
