@@ -229,7 +229,7 @@ module _ (xs : List ℕ) (place : ℕ) (v : Value) (next : ℕ) (f : ValueAt xs 
     }
 
 -- what stands before bytes is bytes too
-bytes-before : (a b : List ℕ) → Bytes (a ++ b) → Bytes a
+pub bytes-before : (a b : List ℕ) → Bytes (a ++ b) → Bytes a
 bytes-before [] b h i = lit< tt
 bytes-before (x ∷ a) b h zero = h 0
 bytes-before (x ∷ a) b h (suc i) = bytes-before a b (λ j. h (suc j)) i

@@ -18,7 +18,7 @@ use Rattle.numbers.proofs.Shortest.{unsigned-shortest, signed-shortest}
 use Rattle.values.specs.Integer.{enumeratedUnder, IsInteger, IsEnumerated}
 use Rattle.values.proofs.Standing.{Stood, StoodOr, stood-or}
 
-is-integer : {A : Type 0} {valueOf : List ℕ → A} {len : ℕ} {xs : List ℕ} {place : ℕ} {x : A} {next : ℕ} (f : IntegerFound valueOf len xs place x next) → IsInteger valueOf len (f .bytes) x
+pub is-integer : {A : Type 0} {valueOf : List ℕ → A} {len : ℕ} {xs : List ℕ} {place : ℕ} {x : A} {next : ℕ} (f : IntegerFound valueOf len xs place x next) → IsInteger valueOf len (f .bytes) x
 is-integer f = record { some = f .some; most = f .most; sized = f .sized; stands = f .stands }
 
 integer-stood : {A : Type 0} {valueOf : List ℕ → A} {len : ℕ} {xs : List ℕ} {place : ℕ} {x : A} {next : ℕ} → IntegerFound valueOf len xs place x next → Stood (λ (p : ℕ). IsInteger valueOf len) xs place x next

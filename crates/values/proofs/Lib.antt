@@ -4,6 +4,7 @@ pub mod Standing
 pub mod Parts
 pub mod Booleans
 pub mod Integers
+pub mod EnumeratedItems
 pub mod Reals
 pub mod OctetStrings
 pub mod Texts
@@ -19,3 +20,4 @@ pub mod Fits
 pub mod Back
 pub mod Again
 pub mod Accepted
+pub mod Fewest

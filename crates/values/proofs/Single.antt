@@ -1,16 +1,20 @@
--- No two answers of the value reader are the same on paper, so its promise admits a single one.
+-- No two answers of a reader of values are the same on paper, so each promise admits a single one.
 -- Assumes nothing.
 use mathlib.Core.Path.{_≡_, refl, ap}
+use Prim.Native.Nat.{ℕ}
 use Rattle.types.specs.Refusal.{row}
 use Rattle.types.specs.Answer.{Answer, accepted, refused}
 use Rattle.types.proofs.Single.{told-apart, programRefusal, refusal-back}
 use Rattle.values.specs.Value.{Value, boolean, real, double, onDate, atTime, objectId, characterString, octetString, enumerated, bitString, unsignedInt, signedInt, valueOf}
 use Rattle.values.specs.Reading.{paperValue}
 use Rattle.values.specs.ObjectId.{identifier}
+use Rattle.values.specs.Enumerated.{paperEnumerated}
 use Rattle.values.specs.declared.value.ApplicationDataValue.{ApplicationDataValue}
 use Rattle.values.specs.declared.value.ApplicationDataValue.the-variants as v
 use Rattle.values.specs.declared.value_read.ValueRead.{ValueRead}
 use Rattle.values.specs.declared.value_read.ValueRead.the-variants as r
+use Rattle.values.specs.declared.enumerated.EnumeratedRead.{EnumeratedRead}
+use Rattle.values.specs.declared.enumerated.EnumeratedRead.the-variants as n
 use Rattle.values.proofs.Dates.{programDate, date-back}
 use Rattle.values.proofs.Times.{programTime, time-back}
 use Rattle.values.proofs.ObjectIds.{programId, id-back}
@@ -57,3 +61,15 @@ read-back (r.Refused x) = ap r.Refused (refusal-back x)
 
 pub single-read : (x y : ValueRead) → paperValue x ≡ paperValue y → x ≡ y
 single-read = told-apart paperValue read read-back
+
+abbrev readEnumerated : Answer ℕ → EnumeratedRead
+readEnumerated (accepted x next) = n.Enumerated x next
+readEnumerated (refused k c) = n.Refused (programRefusal (row k c))
+
+enumerated-back : (x : EnumeratedRead) → readEnumerated (paperEnumerated x) ≡ x
+enumerated-back (n.Enumerated x next) = refl
+enumerated-back (n.Refused x) = ap n.Refused (refusal-back x)
+
+-- nor are two of the reader of an enumerated value
+pub single-enumerated : (x y : EnumeratedRead) → paperEnumerated x ≡ paperEnumerated y → x ≡ y
+single-enumerated = told-apart paperEnumerated readEnumerated enumerated-back

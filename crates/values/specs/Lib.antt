@@ -1,5 +1,6 @@
 pub mod Boolean
 pub mod Integer
+pub mod Enumerated
 pub mod Real
 pub mod Octets
 pub mod Text

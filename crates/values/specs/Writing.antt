@@ -10,6 +10,7 @@ use Rattle.numbers.specs.Integer.{unsignedBytes, signedBytes}
 use Rattle.tags.specs.Writing.{tagBytes}
 use Rattle.tags.specs.Item.{itemBytes, booleanByte}
 use Rattle.utf8.specs.Text.{Text}
+use Rattle.values.specs.Enumerated.{enumeratedBytes}
 use Rattle.values.specs.Real.{realBytes, doubleBytes}
 use Rattle.values.specs.Text.{textWritable}
 use Rattle.values.specs.Bits.{bitsWritable, BitsWrite}
@@ -28,7 +29,7 @@ bytesOf (double x) lent = itemBytes (application 4) (doubleBytes x)
 bytesOf (octetString p) lent = itemBytes (application 6) lent
 bytesOf (characterString p) lent = itemBytes (application 7) (0 ∷ lent)
 bytesOf (bitString unused p) lent = itemBytes (application 8) (unused ∷ lent)
-bytesOf (enumerated x) lent = itemBytes (application 9) (unsignedBytes x)
+bytesOf (enumerated x) lent = enumeratedBytes x
 bytesOf (onDate d) lent = itemBytes (application 10) (dateBytes d)
 bytesOf (atTime t) lent = itemBytes (application 11) (timeBytes t)
 bytesOf (objectId n i) lent = itemBytes (application 12) (objectIdBytes (identifier n i))

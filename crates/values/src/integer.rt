@@ -1,14 +1,12 @@
-// Integers and enumerated values read; tags writes them.
+// Integers read; tags writes them.
 ghost use mathlib.Core.Path.{_≡_};
 ghost use Rattle.numbers.specs.Reading.{unsignedFrom, signedFrom};
-ghost use Rattle.values.specs.Integer.{enumeratedUnder};
 ghost use Rattle.values.specs.Reading.{paperValue};
-ghost use Rattle.values.specs.Value.{unsignedInt, signedInt, enumerated, cased};
+ghost use Rattle.values.specs.Value.{unsignedInt, signedInt, cased};
 use crate::value::ApplicationDataValue;
 use crate::value_read::ValueRead;
 use numbers::SignedRead;
 use numbers::UnsignedRead;
-use types::Refusal;
 
 // The unsigned integer whose content has this length.
 pub(crate) fn read_unsigned(len: u32, buf: &[u8], place: usize) -> ValueRead
@@ -33,20 +31,5 @@ pub(crate) fn read_signed(len: u32, buf: &[u8], place: usize) -> ValueRead
             next,
         ),
         SignedRead::Refused(r) => ValueRead::Refused(r),
-    }
-}
-
-// The enumerated value whose content has this length, if it has 32 bits.
-pub(crate) fn read_enumerated(len: u32, buf: &[u8], place: usize) -> ValueRead
-    ensures { λ r. ⌜ paperValue r ≡ cased enumerated (enumeratedUnder len (now (buf .entry)) place) ⌝ }
-{
-    match tags::decode_unsigned(len, buf, place) {
-        UnsignedRead::Unsigned(value, next) => {
-            if 4294967295 < value {
-                return ValueRead::Refused(Refusal::EnumeratedTooLarge);
-            }
-            ValueRead::Value(ApplicationDataValue::Enumerated(value as u32), next)
-        }
-        UnsignedRead::Refused(r) => ValueRead::Refused(r),
     }
 }

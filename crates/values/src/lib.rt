@@ -3,6 +3,7 @@ mod bits;
 mod boolean;
 mod bytes;
 mod date;
+mod enumerated;
 mod integer;
 mod object_id;
 mod octets;
@@ -14,6 +15,8 @@ mod value;
 mod value_read;
 mod writing;
 
+pub use enumerated::EnumeratedRead;
+pub use enumerated::decode_application_enumerated;
 pub use reading::decode;
 pub use real::double_bits;
 pub use real::double_of;
@@ -26,5 +29,6 @@ pub use value::Time;
 pub use value_read::ValueRead;
 pub use writing::encode;
 
-// Single bytes are read by the layer below: handed on to the layer above.
+// Single bytes are read, and enumerated values written, by the layers below: handed on to the layer above.
+pub use tags::encode_application_enumerated;
 pub use tags::read_byte;

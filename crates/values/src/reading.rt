@@ -7,7 +7,7 @@ ghost use Rattle.values.specs.Reading.{valueFrom, underTag, ofKind, pape
 use crate::bits::read_bits;
 use crate::boolean::read_boolean;
 use crate::date::read_date;
-use crate::integer::read_enumerated;
+use crate::enumerated::read_enumerated;
 use crate::integer::read_signed;
 use crate::integer::read_unsigned;
 use crate::object_id::read_object_id;

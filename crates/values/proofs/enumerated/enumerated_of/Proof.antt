@@ -1,12 +1,12 @@
--- `values::read_enumerated` meets its contract: at each return the answer and the test that led there say which case of `enumeratedUnder` holds.
+-- `values::enumerated_of` meets its contract: at each return the answer and the test that led there say which case of `enumeratedUnder` holds.
 -- Assumes nothing.
 use borrow.Author.Needs.{needs}
 use mathlib.Core.Path.{sym, ap, _∙_}
 use borrow.Author.Tests.{lt-ltb, le-ltb}
 use Rattle.numbers.specs.Reading.{paperUnsigned}
 use Rattle.values.specs.Integer.{enumeratedUnder}
-use Rattle.values.proofs.integer.read_enumerated.Statement.{statement}
-use Rattle.values.proofs.integer.read_enumerated.Tie as tie
+use Rattle.values.proofs.enumerated.enumerated_of.Statement.{statement}
+use Rattle.values.proofs.enumerated.enumerated_of.Tie as tie
 
 decode-unsigned-requires : tie.Need-decode-unsigned-requires
 decode-unsigned-requires c κs = search needs
@@ -32,5 +32,5 @@ returns-3 : tie.Need-returns-3
 unfolding enumeratedUnder
 returns-3 c = simp (sym (c .before .before .before .decode-unsigned .ensures) ∙ ap paperUnsigned (c .before .r .given .1))
 
-pub read-enumerated-spec : {M : Type 1} → statement M
-read-enumerated-spec = tie.close (tie.spec decode-unsigned-requires enum-known-value returns cast-t11 enum-known-r returns-2 returns-3)
+pub enumerated-of-spec : {M : Type 1} → statement M
+enumerated-of-spec = tie.close (tie.spec decode-unsigned-requires enum-known-value returns cast-t11 enum-known-r returns-2 returns-3)
