@@ -39,16 +39,16 @@ none-left control n complex = n .1 .1 .0
 none-left control n segment = n .1 .1 .1 .0
 
 first-cases : (ks : List Kind) (control : ℕ) (xs : List ℕ) (place : ℕ) (P : Answer Header → Type 0)
-    → ((k : Kind) → TellsKind k control → P (kindFrom k xs place)) → (NoneOf ks control → P (refused 17 (amount control))) → P (firstOf ks control xs place)
+    → ((k : Kind) → TellsKind k control → P (kindFrom k (rowOf k .held control) xs place)) → (NoneOf ks control → P (refused 17 (amount control))) → P (firstOf ks control xs place)
 first-cases [] control xs place P f g = g tt
 first-cases (k ∷ ks) control xs place P f g =
-    tells-cases k control (λ b. P (if b (kindFrom k xs place) (firstOf ks control xs place)))
+    tells-cases k control (λ b. P (if b (kindFrom k (rowOf k .held control) xs place) (firstOf ks control xs place)))
     (λ w. f k w)
     (λ n. first-cases ks control xs place P f (λ ns. g (n, ns)))
 
 -- what holds of the header of the kind told, and of 17 where none is told, holds of the header behind a control byte
 pub after-cases : (control : ℕ) (xs : List ℕ) (place : ℕ) (P : Answer Header → Type 0)
-    → ((k : Kind) → TellsKind k control → P (kindFrom k xs place)) → (((k : Kind) → TellsKind k control → ⊥) → P (refused 17 (amount control))) → P (headerAfter control xs place)
+    → ((k : Kind) → TellsKind k control → P (kindFrom k (rowOf k .held control) xs place)) → (((k : Kind) → TellsKind k control → ⊥) → P (refused 17 (amount control))) → P (headerAfter control xs place)
 unfolding headerAfter
 after-cases control xs place P f g = first-cases kinds control xs place P f (λ n. g (none-left control n))
 
@@ -66,10 +66,10 @@ pub one-kind : (control : ℕ) (j k : Kind) → TellsKind j control → TellsKin
 one-kind control j k a b = told-apart (λ (x : Kind). rowOf x .pduType) ofType type-back j k (sym (a .ofType) ∙ b .ofType)
 
 -- so the header behind a control byte is that of the kind that it tells
-pub after-told : (control : ℕ) (xs : List ℕ) (place : ℕ) (k : Kind) → TellsKind k control → headerAfter control xs place ≡ kindFrom k xs place
+pub after-told : (control : ℕ) (xs : List ℕ) (place : ℕ) (k : Kind) → TellsKind k control → headerAfter control xs place ≡ kindFrom k (rowOf k .held control) xs place
 after-told control xs place k w =
-    after-cases control xs place (λ a. a ≡ kindFrom k xs place)
-    (λ j v. ap (λ (x : Kind). kindFrom x xs place) (one-kind control j k v w))
+    after-cases control xs place (λ a. a ≡ kindFrom k (rowOf k .held control) xs place)
+    (λ j v. ap (λ (x : Kind). kindFrom x (rowOf x .held control) xs place) (one-kind control j k v w))
     (λ n. absurd (n k w))
 
 pub after-none : (control : ℕ) (xs : List ℕ) (place : ℕ) → ((k : Kind) → TellsKind k control → ⊥) → headerAfter control xs place ≡ refused 17 (amount control)

@@ -1,6 +1,7 @@
 pub mod Writable
 pub mod Stored
 pub mod Row
+pub mod Following
 pub mod Control
 pub mod Exactly
 pub mod Back

@@ -10,7 +10,7 @@ use Rattle.types.specs.Choice.{if}
 use Rattle.types.specs.Refusal.{amount}
 use Rattle.types.specs.Writing.{Writable, can, cannot, unwritable}
 use Rattle.types.proofs.Accepted.{limit-exactly}
-use Rattle.headers.specs.Header.{FieldValue, nibbles, number, choice}
+use Rattle.headers.specs.Header.{FieldValue, nibbles, number, choice, flag, enumeration}
 use Rattle.headers.specs.Writing.{valueWritable, Carriable, AllCarriable, both, writable}
 
 -- what comes last decides alone
@@ -30,6 +30,8 @@ value-exactly (nibbles a b) =
     let g = limit-exactly 15 b 12 (amount 0) can in
     (λ e. let p = f .0 e in (p .0, g .0 (p .1) .0), λ h. f .1 (h .0, g .1 (h .1, refl)))
 value-exactly (number n) = (λ e. tt, λ h. refl)
+value-exactly (flag b) = (λ e. tt, λ h. refl)
+value-exactly (enumeration x) = (λ e. tt, λ h. refl)
 value-exactly (choice c) = let f = limit-exactly 33 c 11 (amount c) can in (λ e. f .0 e .0, λ h. f .1 (h, refl))
 
 -- and so of all values of a header

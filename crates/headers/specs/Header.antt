@@ -5,6 +5,7 @@ use mathlib.Core.Bool.{Bool, true, false}
 use mathlib.Core.List.{List, [], _∷_}
 use lib.Dec.{eqb}
 use Rattle.types.specs.Choice.{if}
+use Rattle.tags.specs.Item.{booleanByte}
 use Rattle.headers.specs.Words.{requestWord, simpleWord, complexWord, segmentWord}
 use Rattle.headers.specs.declared.header.Header as program
 use Rattle.headers.specs.declared.header.Header.the-variants as h
@@ -24,13 +25,15 @@ pub data Field : Type 0 where
   oneNumber : Field
   oneChoice : Field
 
--- what such a byte carries
+-- what a header carries: such a byte's two numbers, its number or its service choice; a flag, which is a bit of the control byte; an enumerated value, which stands behind those bytes under its own tag
 pub data FieldValue : Type 0 where
   nibbles : ℕ → ℕ → FieldValue
   number : ℕ → FieldValue
   choice : ℕ → FieldValue
+  flag : Bool → FieldValue
+  enumeration : ℕ → FieldValue
 
--- a header: its kind, and what the bytes behind its control byte carry, in their order
+-- a header: its kind, and what it carries, in the order of its bytes
 pub record Header : Type 0 where
   pub kind : Kind
   pub fields : List FieldValue
@@ -38,39 +41,47 @@ pub record Header : Type 0 where
 abbrev pub header : Kind → List FieldValue → Header
 header k vs = record { kind = k; fields = vs }
 
--- a row: the control byte's high nibble, whether its bit 3 says that the PDU is a segment, its low nibble as it is written, and the bytes that follow;
+-- a row: the control byte's high nibble, whether its bit 3 says that the PDU is a segment, and what its low nibble carries; the bytes that follow, and how many enumerated values behind them;
 -- the kind's word, and whether the tags of a body are walked (document 01, "The program")
 pub record HeaderRow : Type 0 where
   pub pduType : ℕ
   pub segmentable : Bool
-  pub low : List FieldValue → ℕ
+  pub held : ℕ → List FieldValue
   pub follow : List Field
+  pub enumerations : ℕ
   pub word : List ℕ
   pub walks : Bool
 
-abbrev pub headerRow : ℕ → Bool → (List FieldValue → ℕ) → List Field → List ℕ → Bool → HeaderRow
-headerRow t s l f word walks = record { pduType = t; segmentable = s; low = l; follow = f; word = word; walks = walks }
+abbrev pub headerRow : ℕ → Bool → (ℕ → List FieldValue) → List Field → ℕ → List ℕ → Bool → HeaderRow
+headerRow t s h f n word walks = record { pduType = t; segmentable = s; held = h; follow = f; enumerations = n; word = word; walks = walks }
+
+abbrev pub holdsNothing : ℕ → List FieldValue
+holdsNothing control = []
 
 -- a request says by 2 that it accepts an answer in segments: not if its segments nibble is 0
 abbrev pub accepting : ℕ → ℕ
 accepting segments = if (eqb segments 0) 0 2
 
-abbrev pub requestLow : List FieldValue → ℕ
-requestLow [] = 0
-requestLow (nibbles segments size ∷ vs) = accepting segments
-requestLow (number n ∷ vs) = 0
-requestLow (choice c ∷ vs) = 0
+-- what a value puts into the low nibble of the control byte
+abbrev pub lowFor : FieldValue → ℕ
+lowFor (nibbles segments size) = accepting segments
+lowFor (number n) = 0
+lowFor (choice c) = 0
+lowFor (flag b) = booleanByte b
+lowFor (enumeration x) = 0
 
-abbrev pub noLow : List FieldValue → ℕ
-noLow vs = 0
+-- the low nibble as it is written: what the first value puts there
+abbrev pub lowNibble : List FieldValue → ℕ
+lowNibble [] = 0
+lowNibble (v ∷ vs) = lowFor v
 
 -- the table (20.1.2, 20.1.4 to 20.1.6): behind its control byte a request has max-segments-accepted and max-APDU-length-accepted in one byte, then invokeID and service-choice;
 -- a simple and a complex acknowledgement have original-invokeID and service-ACK-choice; a segment acknowledgement has original-invokeID, sequence-number and actual-window-size
 abbrev pub rowOf : Kind → HeaderRow
-rowOf request = headerRow 0 true requestLow (twoNibbles ∷ oneNumber ∷ oneChoice ∷ []) requestWord true
-rowOf simple = headerRow 2 false noLow (oneNumber ∷ oneChoice ∷ []) simpleWord false
-rowOf complex = headerRow 3 true noLow (oneNumber ∷ oneChoice ∷ []) complexWord true
-rowOf segment = headerRow 4 false noLow (oneNumber ∷ oneNumber ∷ oneNumber ∷ []) segmentWord false
+rowOf request = headerRow 0 true holdsNothing (twoNibbles ∷ oneNumber ∷ oneChoice ∷ []) 0 requestWord true
+rowOf simple = headerRow 2 false holdsNothing (oneNumber ∷ oneChoice ∷ []) 0 simpleWord false
+rowOf complex = headerRow 3 true holdsNothing (oneNumber ∷ oneChoice ∷ []) 0 complexWord true
+rowOf segment = headerRow 4 false holdsNothing (oneNumber ∷ oneNumber ∷ oneNumber ∷ []) 0 segmentWord false
 
 -- all of them
 abbrev pub kinds : List Kind
@@ -94,3 +105,5 @@ fieldNumbers [] = []
 fieldNumbers (nibbles a b ∷ vs) = a ∷ b ∷ fieldNumbers vs
 fieldNumbers (number n ∷ vs) = n ∷ fieldNumbers vs
 fieldNumbers (choice c ∷ vs) = c ∷ fieldNumbers vs
+fieldNumbers (flag b ∷ vs) = booleanByte b ∷ fieldNumbers vs
+fieldNumbers (enumeration x ∷ vs) = x ∷ fieldNumbers vs

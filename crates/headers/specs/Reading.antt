@@ -1,14 +1,15 @@
--- Reading a header (ASHRAE 135, 20.1, as 01 restates it): one rule for the bytes of every row, and the maps from the program's answers.
+-- Reading a header (ASHRAE 135, 20.1, as 01 restates it): one rule for the fixed bytes of every row and one for the enumerated values behind them, and the maps from the program's answers.
 -- Assumes nothing.
-use Prim.Native.Nat.{ℕ, _/_, _%_}
+use Prim.Native.Nat.{ℕ, zero, suc, _/_, _%_}
 use mathlib.Core.Bool.{Bool, true, false}
-use mathlib.Core.List.{List, [], _∷_}
+use mathlib.Core.List.{List, [], _∷_, _++_}
 use lib.Dec.{ltb, eqb}
 use Rattle.types.specs.Choice.{if}
 use Rattle.types.specs.Refusal.{amount}
 use Rattle.types.specs.Answer.{Answer, accepted, refused, refusal, then}
 use Rattle.numbers.specs.Reading.{byteFrom}
-use Rattle.headers.specs.Header.{Kind, Field, twoNibbles, oneNumber, oneChoice, FieldValue, nibbles, number, choice, Header, header, HeaderRow, rowOf, kinds, headerOf}
+use Rattle.values.specs.Enumerated.{enumeratedFrom}
+use Rattle.headers.specs.Header.{Kind, Field, twoNibbles, oneNumber, oneChoice, FieldValue, nibbles, number, choice, enumeration, Header, header, HeaderRow, rowOf, kinds, headerOf}
 use Rattle.headers.specs.declared.reading.HeaderRead.{HeaderRead}
 use Rattle.headers.specs.declared.reading.HeaderRead.the-variants as r
 use Rattle.headers.specs.declared.reading.PairRead.{PairRead}
@@ -29,9 +30,24 @@ fieldsFrom (f ∷ fs) xs place =
     then (fieldsFrom fs xs behind) (λ vs next.
     accepted (v ∷ vs) next)))
 
--- the header of a kind, from behind its control byte on
-abbrev pub kindFrom : Kind → List ℕ → ℕ → Answer Header
-kindFrom k xs place = then (fieldsFrom (rowOf k .follow) xs place) (λ vs next. accepted (header k vs) next)
+-- so many enumerated values, one behind the other
+abbrev pub enumerationsFrom : ℕ → List ℕ → ℕ → Answer (List FieldValue)
+enumerationsFrom zero xs place = accepted [] place
+enumerationsFrom (suc n) xs place =
+    then (enumeratedFrom xs place) (λ x behind.
+    then (enumerationsFrom n xs behind) (λ vs next.
+    accepted (enumeration x ∷ vs) next))
+
+-- what stands behind the control byte: the bytes of a row, then its enumerated values
+abbrev pub followingFrom : HeaderRow → List ℕ → ℕ → Answer (List FieldValue)
+followingFrom r xs place =
+    then (fieldsFrom (r .follow) xs place) (λ vs behind.
+    then (enumerationsFrom (r .enumerations) xs behind) (λ ws next.
+    accepted (vs ++ ws) next))
+
+-- the header of a kind, from behind its control byte on, which holds these
+abbrev pub kindFrom : Kind → List FieldValue → List ℕ → ℕ → Answer Header
+kindFrom k held xs place = then (followingFrom (rowOf k) xs place) (λ vs next. accepted (header k (held ++ vs)) next)
 
 -- whether a control byte has a row's type, and does not say that the PDU is a segment
 abbrev pub tells : HeaderRow → ℕ → Bool
@@ -40,7 +56,7 @@ tells r control = if (eqb (control / 16) (r .pduType)) (if (r .segmentable) (eqb
 -- the header of the first kind that the control byte tells; where it tells none, 17 carries it
 abbrev pub firstOf : List Kind → ℕ → List ℕ → ℕ → Answer Header
 firstOf [] control xs place = refused 17 (amount control)
-firstOf (k ∷ ks) control xs place = if (tells (rowOf k) control) (kindFrom k xs place) (firstOf ks control xs place)
+firstOf (k ∷ ks) control xs place = if (tells (rowOf k) control) (kindFrom k (rowOf k .held control) xs place) (firstOf ks control xs place)
 
 unfoldable pub headerAfter : ℕ → List ℕ → ℕ → Answer Header
 headerAfter control xs place = firstOf kinds control xs place

@@ -1,24 +1,32 @@
 -- Writing a header (ASHRAE 135, 20.1, as 01 restates it): one rule for the bytes of every row.
 -- Assumes nothing.
 use Prim.Native.Nat.{ℕ, _+_, _*_, _≤_}
-use mathlib.Core.List.{List, [], _∷_, map}
+use mathlib.Core.List.{List, [], _∷_, _++_}
 use lib.Dec.{ltb}
 use Rattle.types.specs.Choice.{if}
 use Rattle.types.specs.Refusal.{amount}
 use Rattle.types.specs.Writing.{Left, Writable, can, cannot, unwritable, writing}
-use Rattle.headers.specs.Header.{FieldValue, nibbles, number, choice, Header, rowOf}
+use Rattle.values.specs.Enumerated.{enumeratedBytes}
+use Rattle.headers.specs.Header.{FieldValue, nibbles, number, choice, flag, enumeration, Header, rowOf, lowNibble}
 
--- the byte that carries a value
-abbrev pub byteOf : FieldValue → ℕ
-byteOf (nibbles a b) = a * 16 + b
-byteOf (number n) = n
-byteOf (choice c) = c
+-- the bytes behind the control byte that carry a value: a flag has none
+abbrev pub fieldBytes : FieldValue → List ℕ
+fieldBytes (nibbles a b) = (a * 16 + b) ∷ []
+fieldBytes (number n) = n ∷ []
+fieldBytes (choice c) = c ∷ []
+fieldBytes (flag b) = []
+fieldBytes (enumeration x) = enumeratedBytes x
+
+-- those of several, one behind the other
+abbrev pub followingBytes : List FieldValue → List ℕ
+followingBytes [] = []
+followingBytes (v ∷ vs) = fieldBytes v ++ followingBytes vs
 
 -- the control byte and the bytes that follow
 unfoldable pub headerBytes : Header → List ℕ
-headerBytes h = (rowOf (h .kind) .pduType * 16 + rowOf (h .kind) .low (h .fields)) ∷ map byteOf (h .fields)
+headerBytes h = (rowOf (h .kind) .pduType * 16 + lowNibble (h .fields)) ∷ followingBytes (h .fields)
 
--- whether a byte can carry a value: a nibble has four bits, a service choice goes to 33
+-- whether a value can be carried: a nibble has four bits, a service choice goes to 33
 abbrev pub choiceWritable : ℕ → Writable
 choiceWritable c = if (ltb 33 c) (cannot 11 (amount c)) can
 
@@ -26,12 +34,16 @@ abbrev pub valueWritable : FieldValue → Writable
 valueWritable (nibbles a b) = if (ltb 15 a) unwritable (if (ltb 15 b) unwritable can)
 valueWritable (number n) = can
 valueWritable (choice c) = choiceWritable c
+valueWritable (flag b) = can
+valueWritable (enumeration x) = can
 
 -- the same, said and not computed
 abbrev pub Carriable : FieldValue → Type 0
 Carriable (nibbles a b) = (a ≤ 15) × (b ≤ 15)
 Carriable (number n) = Unit {0}
 Carriable (choice c) = c ≤ 33
+Carriable (flag b) = Unit {0}
+Carriable (enumeration x) = Unit {0}
 
 abbrev pub AllCarriable : List FieldValue → Type 0
 AllCarriable [] = Unit {0}

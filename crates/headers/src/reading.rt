@@ -62,7 +62,7 @@ fn header_after(control: u8, buf: &[u8], place: usize) -> HeaderRead
 
 // The request, from behind its control byte on.
 fn confirmed_request(buf: &[u8], place: usize) -> HeaderRead
-    ensures { λ r. ⌜ paperHeader r ≡ kindFrom request (now (buf .entry)) place ⌝ }
+    ensures { λ r. ⌜ paperHeader r ≡ kindFrom request [] (now (buf .entry)) place ⌝ }
 {
     match values::read_byte(buf, place) {
         ByteRead::Byte(sizes, after) => match id_and_choice(buf, after) {
@@ -83,7 +83,7 @@ fn confirmed_request(buf: &[u8], place: usize) -> HeaderRead
 
 // The simple acknowledgement, from behind its control byte on.
 fn simple_ack(buf: &[u8], place: usize) -> HeaderRead
-    ensures { λ r. ⌜ paperHeader r ≡ kindFrom simple (now (buf .entry)) place ⌝ }
+    ensures { λ r. ⌜ paperHeader r ≡ kindFrom simple [] (now (buf .entry)) place ⌝ }
 {
     match id_and_choice(buf, place) {
         PairRead::Pair(invoke_id, service_choice, next) => HeaderRead::Read(
@@ -99,7 +99,7 @@ fn simple_ack(buf: &[u8], place: usize) -> HeaderRead
 
 // The complex acknowledgement, from behind its control byte on.
 fn complex_ack(buf: &[u8], place: usize) -> HeaderRead
-    ensures { λ r. ⌜ paperHeader r ≡ kindFrom complex (now (buf .entry)) place ⌝ }
+    ensures { λ r. ⌜ paperHeader r ≡ kindFrom complex [] (now (buf .entry)) place ⌝ }
 {
     match id_and_choice(buf, place) {
         PairRead::Pair(invoke_id, service_choice, next) => HeaderRead::Read(
@@ -115,7 +115,7 @@ fn complex_ack(buf: &[u8], place: usize) -> HeaderRead
 
 // The segment acknowledgement, from behind its control byte on.
 fn segment_ack(buf: &[u8], place: usize) -> HeaderRead
-    ensures { λ r. ⌜ paperHeader r ≡ kindFrom segment (now (buf .entry)) place ⌝ }
+    ensures { λ r. ⌜ paperHeader r ≡ kindFrom segment [] (now (buf .entry)) place ⌝ }
 {
     match values::read_byte(buf, place) {
         ByteRead::Byte(invoke_id, second) => match values::read_byte(buf, second) {

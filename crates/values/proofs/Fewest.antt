@@ -8,6 +8,7 @@ use mathlib.Core.List.{List, [], _∷_, _++_}
 use lib.ListN.{length, length-append}
 use borrow.Author.Tests.{lt-ltb}
 use Rattle.types.specs.Tag.{application, tag}
+use Rattle.types.specs.Answer.{accepted}
 use Rattle.numbers.specs.Integer.{unsignedValue, unsignedLength, unsignedBytes, lowBytes, Bytes}
 use Rattle.numbers.proofs.Low.{low-bytes-are-bytes, low-bytes-of-value}
 use Rattle.numbers.proofs.Least.{length-between, length-least}
@@ -16,12 +17,13 @@ use Rattle.tags.specs.Header.{IsTag}
 use Rattle.tags.specs.Writing.{tagBytes}
 use Rattle.tags.proofs.Exactly.{tag-length}
 use Rattle.tags.proofs.Form.{written-form}
+use Rattle.tags.proofs.OneTag.{same-front}
 use Rattle.values.specs.Integer.{IsEnumerated}
-use Rattle.values.specs.Enumerated.{enumeratedBytes, IsEnumeratedItem, underNine, Fewest}
-use Rattle.values.proofs.EnumeratedItems.{enumerated-item, item-fits}
+use Rattle.values.specs.Enumerated.{enumeratedFrom, enumeratedBytes, IsEnumeratedItem, underNine, Fewest, isThere}
+use Rattle.values.proofs.EnumeratedItems.{enumerated-answers, enumerated-item, item-fits}
 use Rattle.values.proofs.Again.{bytes-before}
 
-bytes-behind : (a b : List ℕ) → Bytes (a ++ b) → Bytes b
+pub bytes-behind : (a b : List ℕ) → Bytes (a ++ b) → Bytes b
 bytes-behind [] b h = h
 bytes-behind (x ∷ a) b h = bytes-behind a b (λ i. h (suc i))
 
@@ -81,3 +83,12 @@ module _ (x : ℕ) (fits : x ≤ 4294967295) where
 -- bytes that are an enumerated value are written again for it exactly if they are the fewest
 pub fewest-exactly : (x : ℕ) (bytes : List ℕ) → Bytes bytes → IsEnumeratedItem x bytes → (enumeratedBytes x ≡ bytes) ↔ Fewest x bytes
 fewest-exactly x bytes b i = (λ e. subst (Fewest x) e (written-fewest x (item-fits i)), fewest-written x (item-fits i) b i)
+
+-- bytes that begin with the ones that are written for an enumerated value, and with others that are it, begin with the same
+pub one-item : (x : ℕ) {item : List ℕ} (more rest : List ℕ) → IsEnumeratedItem x item → length (item ++ rest) ≤ 65535 → enumeratedBytes x ++ more ≡ item ++ rest → (enumeratedBytes x ≡ item) × (more ≡ rest)
+one-item x {item} more rest i small e =
+    let own : List ℕ = enumeratedBytes x in
+    let a : enumeratedFrom (item ++ rest) 0 ≡ accepted x (0 + length item) = enumerated-answers (item ++ rest) 0 (accepted x (0 + length item)) (isThere item rest small refl i refl) in
+    let b : enumeratedFrom (item ++ rest) 0 ≡ accepted x (0 + length own) = enumerated-answers (item ++ rest) 0 (accepted x (0 + length own)) (isThere own more small (sym e) (enumerated-item x (item-fits i)) refl) in
+    let n : 0 + length own ≡ 0 + length item = cc in
+    same-front own more item rest (omega arith) e
