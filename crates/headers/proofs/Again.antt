@@ -19,7 +19,7 @@ use Rattle.values.specs.Enumerated.{Fewest}
 use Rattle.tags.proofs.OneTag.{same-front}
 use Rattle.values.proofs.Again.{bytes-before}
 use Rattle.values.proofs.Fewest.{bytes-behind, fewest-exactly, one-item}
-use Rattle.headers.specs.Header.{Kind, request, simple, complex, segment, Field, FieldValue, nibbles, choice, Header, header, rowOf, lowNibble}
+use Rattle.headers.specs.Header.{Kind, request, simple, complex, segment, error, reject, abort, Field, FieldValue, nibbles, choice, Header, header, rowOf, lowNibble}
 use Rattle.headers.specs.Reading.{headerFrom}
 use Rattle.headers.specs.Writing.{fieldBytes, followingBytes, valueWritable, both, writable, headerBytes, headerTo}
 use Rattle.headers.specs.Bytes.{Carries, asNibbles, asNumber, asChoice, AreFields, none, more, AreEnumerations, noMore, another, TellsKind, IsHeader, ofRow}
@@ -46,6 +46,9 @@ held-apart request control = (refl, refl)
 held-apart simple control = (refl, refl)
 held-apart complex control = (refl, refl)
 held-apart segment control = (refl, refl)
+held-apart error control = (refl, refl)
+held-apart reject control = (refl, refl)
+held-apart abort control = (refl, refl)
 
 -- the bytes of a header are written again as they are, but for the low nibble of the first and the form of its enumerated values
 same-bytes : {k : Kind} {control : ℕ} {vs ws : List FieldValue} {bytes items : List ℕ} → TellsKind k control → AreFields (rowOf k .follow) vs bytes → AreEnumerations (rowOf k .enumerations) ws items

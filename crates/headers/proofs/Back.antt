@@ -1,19 +1,22 @@
 -- What is written reads back: every header that can be written, as itself, with the place behind it.
 -- Assumes nothing.
 use mathlib.Core.Path.{_≡_, refl, _∙_, ap, ap₂, sym, subst, subst₂}
-use mathlib.Core.Bool.{true, false}
+use mathlib.Core.Bool.{Bool, true, false}
 use Prim.Native.Nat.{ℕ, suc, _+_, _*_, _<_, _≤_}
 use native.Mathlib.Omega.{arith}
 use mathlib.Core.List.{List, [], _∷_, _++_, map, append-assoc, append-nil}
 use lib.Dec.{eqb, lit<}
-use lib.ListN.{length, drop}
+use lib.ListN.{length, drop, length-append}
 use Rattle.types.specs.Answer.{accepted}
 use Rattle.types.specs.Writing.{can, left}
 use Rattle.types.proofs.Choices.{either}
 use Rattle.types.proofs.Accepted.{could-be-written}
 use Rattle.numbers.proofs.Wrote.{wrote, written-here, over-length}
+use Rattle.numbers.specs.Integer.{unsignedLength}
+use Rattle.values.specs.Enumerated.{enumeratedBytes}
 use Rattle.values.proofs.EnumeratedItems.{enumerated-item}
-use Rattle.headers.specs.Header.{Kind, request, simple, complex, segment, Field, twoNibbles, oneNumber, oneChoice, FieldValue, nibbles, number, choice, flag, enumeration, Header, header, rowOf, lowNibble, kinds, headerOf}
+use Rattle.values.proofs.Fewest.{enumerated-length, enumerated-between}
+use Rattle.headers.specs.Header.{Kind, request, simple, complex, segment, error, reject, abort, Field, twoNibbles, oneNumber, oneChoice, FieldValue, nibbles, number, choice, flag, enumeration, Header, header, rowOf, lowNibble, kinds, headerOf}
 use Rattle.headers.specs.Reading.{headerFrom}
 use Rattle.headers.specs.Writing.{fieldBytes, followingBytes, valueWritable, both, writable, headerBytes, headerTo}
 use Rattle.headers.specs.Bytes.{asNibbles, asNumber, asChoice, AreFields, none, more, AreEnumerations, noMore, another, TellsKind, IsHeader, ofRow}
@@ -62,23 +65,72 @@ fixed-only k vs h o n = record {
   ofValues = subst (λ (m : ℕ). OfValues m []) (sym n) noValues;
 }
 
--- each of the program's does
-pub of-table : (x : program.Header) → OfTable (headerOf x)
-of-table (h.ConfirmedRequest segments size id c) = fixed-only request _ (λ control. refl) (ofNibbles (ofNumber (ofChoice noFields))) refl
-of-table (h.SimpleAck id c) = fixed-only simple _ (λ control. refl) (ofNumber (ofChoice noFields)) refl
-of-table (h.ComplexAck id c) = fixed-only complex _ (λ control. refl) (ofNumber (ofChoice noFields)) refl
-of-table (h.SegmentAck id sequence window) = fixed-only segment _ (λ control. refl) (ofNumber (ofNumber (ofNumber noFields))) refl
+-- a header that the program can hold: class and code have 32 bits
+abbrev pub Wide : program.Header → Type 0
+Wide (h.ConfirmedRequest segments size id c) = Unit {0}
+Wide (h.SimpleAck id c) = Unit {0}
+Wide (h.ComplexAck id c) = Unit {0}
+Wide (h.SegmentAck id sequence window) = Unit {0}
+Wide (h.ConfirmedBacnetError id c class code) = (class ≤ 4294967295) × (code ≤ 4294967295)
+Wide (h.Reject id reason) = Unit {0}
+Wide (h.Abort server id reason) = Unit {0}
 
--- a header is its control byte and its row's bytes, and 13 carries their number: 4, 3, 3 and 4
+-- the flag that an abort's control byte holds is the one that is written there
+server-held : (server : Bool) (vs : List FieldValue) → rowOf abort .held (controlOf (header abort (flag server ∷ vs))) ≡ flag server ∷ []
+server-held true vs = refl
+server-held false vs = refl
+
+-- each of them does
+pub of-table : (x : program.Header) → Wide x → OfTable (headerOf x)
+of-table (h.ConfirmedRequest segments size id c) w = fixed-only request _ (λ control. refl) (ofNibbles (ofNumber (ofChoice noFields))) refl
+of-table (h.SimpleAck id c) w = fixed-only simple _ (λ control. refl) (ofNumber (ofChoice noFields)) refl
+of-table (h.ComplexAck id c) w = fixed-only complex _ (λ control. refl) (ofNumber (ofChoice noFields)) refl
+of-table (h.SegmentAck id sequence window) w = fixed-only segment _ (λ control. refl) (ofNumber (ofNumber (ofNumber noFields))) refl
+of-table (h.ConfirmedBacnetError id c class code) w = record {
+  held = [];
+  fixed = number id ∷ choice c ∷ [];
+  values = enumeration class ∷ enumeration code ∷ [];
+  parts = refl;
+  inControl = refl;
+  noBytes = refl;
+  ofFields = ofNumber (ofChoice noFields);
+  ofValues = ofValue (w .0) (ofValue (w .1) noValues);
+}
+of-table (h.Reject id reason) w = fixed-only reject _ (λ control. refl) (ofNumber (ofNumber noFields)) refl
+of-table (h.Abort server id reason) w = record {
+  held = flag server ∷ [];
+  fixed = number id ∷ number reason ∷ [];
+  values = [];
+  parts = refl;
+  inControl = server-held server (number id ∷ number reason ∷ []);
+  noBytes = refl;
+  ofFields = ofNumber (ofNumber noFields);
+  ofValues = noValues;
+}
+
+-- a header without enumerated values is its control byte and its row's bytes, and 13 carries their number: 4, 3, 3, 4, and 3 of a reject and of an abort
 pub header-length : (x : program.Header) → rowOf (headerOf x .kind) .enumerations ≡ 0 → length (headerBytes (headerOf x)) ≡ suc (length (rowOf (headerOf x .kind) .follow))
 unfolding headerBytes
 header-length (h.ConfirmedRequest segments size id c) e = refl
 header-length (h.SimpleAck id c) e = refl
 header-length (h.ComplexAck id c) e = refl
 header-length (h.SegmentAck id sequence window) e = refl
+header-length (h.ConfirmedBacnetError id c class code) e = absurd (omega arith)
+header-length (h.Reject id reason) e = refl
+header-length (h.Abort server id reason) e = refl
 
-pub lengths : map (λ (k : Kind). suc (length (rowOf k .follow))) kinds ≡ 4 ∷ 3 ∷ 3 ∷ 4 ∷ []
+pub lengths : map (λ (k : Kind). suc (length (rowOf k .follow))) kinds ≡ 4 ∷ 3 ∷ 3 ∷ 4 ∷ 3 ∷ 3 ∷ 3 ∷ []
 lengths = refl
+
+-- that of an error has class and code besides, each in a byte more than the fewest that hold it: 7 to 13 bytes
+pub error-length : (id c class code : ℕ) → class ≤ 4294967295 → code ≤ 4294967295 → length (headerBytes (headerOf (h.ConfirmedBacnetError id c class code))) ≡ 5 + unsignedLength class + unsignedLength code
+unfolding headerBytes
+error-length id c class code a b =
+    omega (arith, length-append (enumeratedBytes class) (enumeratedBytes code ++ []), length-append (enumeratedBytes code) [], enumerated-length class a, enumerated-length code b)
+
+pub error-between : (id c class code : ℕ) → class ≤ 4294967295 → code ≤ 4294967295
+    → (7 ≤ length (headerBytes (headerOf (h.ConfirmedBacnetError id c class code)))) × (length (headerBytes (headerOf (h.ConfirmedBacnetError id c class code))) ≤ 13)
+error-between id c class code a b = omega (arith, error-length id c class code a b, enumerated-length class a, enumerated-length code b, enumerated-between class a, enumerated-between code b)
 
 -- the low nibble that is written has bit 3 clear
 pub low-short : (vs : List FieldValue) → lowNibble vs < 8
@@ -148,5 +200,5 @@ written-reads h t xs place next ys e =
     })
 
 -- whatever `encode` writes, `decode` reads as the same header, with the place that `encode` answered
-pub round-trip : (x : program.Header) (xs : List ℕ) (place next : ℕ) (ys : List ℕ) → headerTo (headerOf x) xs place ≡ left (accepted tt next) ys → headerFrom ys place ≡ accepted (headerOf x) next
-round-trip x = written-reads (headerOf x) (of-table x)
+pub round-trip : (x : program.Header) → Wide x → (xs : List ℕ) (place next : ℕ) (ys : List ℕ) → headerTo (headerOf x) xs place ≡ left (accepted tt next) ys → headerFrom ys place ≡ accepted (headerOf x) next
+round-trip x w = written-reads (headerOf x) (of-table x w)

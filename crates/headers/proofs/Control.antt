@@ -11,7 +11,7 @@ use Rattle.types.specs.Choice.{if}
 use Rattle.types.specs.Refusal.{amount}
 use Rattle.types.specs.Answer.{Answer, refused}
 use Rattle.types.proofs.Single.{told-apart}
-use Rattle.headers.specs.Header.{Kind, request, simple, complex, segment, Header, rowOf, kinds}
+use Rattle.headers.specs.Header.{Kind, request, simple, complex, segment, error, reject, abort, Header, rowOf, kinds}
 use Rattle.headers.specs.Reading.{tells, kindFrom, firstOf, headerAfter}
 use Rattle.headers.specs.Bytes.{TellsKind}
 
@@ -37,6 +37,9 @@ none-left control n request = n .0
 none-left control n simple = n .1 .0
 none-left control n complex = n .1 .1 .0
 none-left control n segment = n .1 .1 .1 .0
+none-left control n error = n .1 .1 .1 .1 .0
+none-left control n reject = n .1 .1 .1 .1 .1 .0
+none-left control n abort = n .1 .1 .1 .1 .1 .1 .0
 
 first-cases : (ks : List Kind) (control : ℕ) (xs : List ℕ) (place : ℕ) (P : Answer Header → Type 0)
     → ((k : Kind) → TellsKind k control → P (kindFrom k (rowOf k .held control) xs place)) → (NoneOf ks control → P (refused 17 (amount control))) → P (firstOf ks control xs place)
@@ -54,13 +57,16 @@ after-cases control xs place P f g = first-cases kinds control xs place P f (λ 
 
 -- no two kinds have one type
 abbrev pub ofType : ℕ → Kind
-ofType t = if (eqb t 0) request (if (eqb t 2) simple (if (eqb t 3) complex segment))
+ofType t = if (eqb t 0) request (if (eqb t 2) simple (if (eqb t 3) complex (if (eqb t 4) segment (if (eqb t 5) error (if (eqb t 6) reject abort)))))
 
 pub type-back : (k : Kind) → ofType (rowOf k .pduType) ≡ k
 type-back request = refl
 type-back simple = refl
 type-back complex = refl
 type-back segment = refl
+type-back error = refl
+type-back reject = refl
+type-back abort = refl
 
 pub one-kind : (control : ℕ) (j k : Kind) → TellsKind j control → TellsKind k control → j ≡ k
 one-kind control j k a b = told-apart (λ (x : Kind). rowOf x .pduType) ofType type-back j k (sym (a .ofType) ∙ b .ofType)

@@ -5,6 +5,7 @@ pub mod Following
 pub mod Control
 pub mod Exactly
 pub mod Back
+pub mod Errors
 pub mod Again
 pub mod Single
 pub mod Examples

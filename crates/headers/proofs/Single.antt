@@ -2,12 +2,14 @@
 -- Assumes nothing.
 use mathlib.Core.Path.{_≡_, refl, ap}
 use Prim.Native.Nat.{ℕ}
+use mathlib.Core.Bool.{true, false}
 use mathlib.Core.List.{List, [], _∷_}
+use lib.Dec.{eqb}
 use lib.ListN.{getD}
 use Rattle.types.specs.Refusal.{row}
 use Rattle.types.specs.Answer.{Answer, accepted, refused}
 use Rattle.types.proofs.Single.{told-apart, programRefusal, refusal-back}
-use Rattle.headers.specs.Header.{Kind, request, simple, complex, segment, Header, headerOf, kindOf, fieldNumbers}
+use Rattle.headers.specs.Header.{Kind, request, simple, complex, segment, error, reject, abort, Header, headerOf, kindOf, fieldNumbers}
 use Rattle.headers.specs.Reading.{paperHeader}
 use Rattle.headers.specs.declared.header.Header as program
 use Rattle.headers.specs.declared.header.Header.the-variants as h
@@ -21,12 +23,18 @@ programKind request = k.Request
 programKind simple = k.Simple
 programKind complex = k.Complex
 programKind segment = k.Segment
+programKind error = k.Error
+programKind reject = k.Reject
+programKind abort = k.Abort
 
 kind-back : (x : kind.Kind) → programKind (kindOf x) ≡ x
 kind-back k.Request = refl
 kind-back k.Simple = refl
 kind-back k.Complex = refl
 kind-back k.Segment = refl
+kind-back k.Error = refl
+kind-back k.Reject = refl
+kind-back k.Abort = refl
 
 -- no two kinds are the same on paper
 pub single-kind : (x y : kind.Kind) → kindOf x ≡ kindOf y → x ≡ y
@@ -38,6 +46,9 @@ ofFields request a b c d = h.ConfirmedRequest a b c d
 ofFields simple a b c d = h.SimpleAck a b
 ofFields complex a b c d = h.ComplexAck a b
 ofFields segment a b c d = h.SegmentAck a b c
+ofFields error a b c d = h.ConfirmedBacnetError a b c d
+ofFields reject a b c d = h.Reject a b
+ofFields abort a b c d = h.Abort (eqb a 1) b c
 
 abbrev pub programHeader : Header → program.Header
 programHeader x =
@@ -48,6 +59,10 @@ header-back (h.ConfirmedRequest segments size id c) = refl
 header-back (h.SimpleAck id c) = refl
 header-back (h.ComplexAck id c) = refl
 header-back (h.SegmentAck id sequence window) = refl
+header-back (h.ConfirmedBacnetError id c class code) = refl
+header-back (h.Reject id reason) = refl
+header-back (h.Abort true id reason) = refl
+header-back (h.Abort false id reason) = refl
 
 -- no two headers are the same on paper
 pub single-header : (x y : program.Header) → headerOf x ≡ headerOf y → x ≡ y

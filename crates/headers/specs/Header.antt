@@ -1,23 +1,26 @@
--- The headers of confirmed services (ASHRAE 135, 20.1.2 and 20.1.4 to 20.1.6, as 01 restates them): a table with a row for each kind, and the map from the program's headers.
+-- The headers of confirmed services (ASHRAE 135, 20.1.2 and 20.1.4 to 20.1.9, as 01 and request K2 restate them): a table with a row for each kind, and the map from the program's headers.
 -- Assumes nothing.
-use Prim.Native.Nat.{ℕ}
+use Prim.Native.Nat.{ℕ, _%_}
 use mathlib.Core.Bool.{Bool, true, false}
 use mathlib.Core.List.{List, [], _∷_}
 use lib.Dec.{eqb}
 use Rattle.types.specs.Choice.{if}
 use Rattle.tags.specs.Item.{booleanByte}
-use Rattle.headers.specs.Words.{requestWord, simpleWord, complexWord, segmentWord}
+use Rattle.headers.specs.Words.{requestWord, simpleWord, complexWord, segmentWord, errorWord, rejectWord, abortWord}
 use Rattle.headers.specs.declared.header.Header as program
 use Rattle.headers.specs.declared.header.Header.the-variants as h
 use Rattle.headers.specs.declared.kind.Kind as kind
 use Rattle.headers.specs.declared.kind.Kind.the-variants as k
 
--- the kinds of headers that document 01 takes
+-- the kinds of headers that are taken: document 01's four, and K2's three
 pub data Kind : Type 0 where
   request : Kind
   simple : Kind
   complex : Kind
   segment : Kind
+  error : Kind
+  reject : Kind
+  abort : Kind
 
 -- a byte behind the control byte: two numbers of four bits, a number, or a service choice
 pub data Field : Type 0 where
@@ -55,8 +58,12 @@ pub record HeaderRow : Type 0 where
 abbrev pub headerRow : ℕ → Bool → (ℕ → List FieldValue) → List Field → ℕ → List ℕ → Bool → HeaderRow
 headerRow t s h f n word walks = record { pduType = t; segmentable = s; held = h; follow = f; enumerations = n; word = word; walks = walks }
 
+-- what a control byte carries: an abort's bit 0 says whether a server sent it (20.1.9.1.2), and no other kind's carries anything that is kept
 abbrev pub holdsNothing : ℕ → List FieldValue
 holdsNothing control = []
+
+abbrev pub holdsServer : ℕ → List FieldValue
+holdsServer control = flag (eqb (control % 2) 1) ∷ []
 
 -- a request says by 2 that it accepts an answer in segments: not if its segments nibble is 0
 abbrev pub accepting : ℕ → ℕ
@@ -75,29 +82,39 @@ abbrev pub lowNibble : List FieldValue → ℕ
 lowNibble [] = 0
 lowNibble (v ∷ vs) = lowFor v
 
--- the table (20.1.2, 20.1.4 to 20.1.6): behind its control byte a request has max-segments-accepted and max-APDU-length-accepted in one byte, then invokeID and service-choice;
--- a simple and a complex acknowledgement have original-invokeID and service-ACK-choice; a segment acknowledgement has original-invokeID, sequence-number and actual-window-size
+-- the table (20.1.2, 20.1.4 to 20.1.9): behind its control byte a request has max-segments-accepted and max-APDU-length-accepted in one byte, then invokeID and service-choice;
+-- a simple and a complex acknowledgement have original-invokeID and service-ACK-choice; a segment acknowledgement has original-invokeID, sequence-number and actual-window-size;
+-- an error has original-invokeID and error-choice, and behind them error-class and error-code, each enumerated under its application tag; a reject has original-invokeID and reject-reason, an abort original-invokeID and abort-reason
 abbrev pub rowOf : Kind → HeaderRow
 rowOf request = headerRow 0 true holdsNothing (twoNibbles ∷ oneNumber ∷ oneChoice ∷ []) 0 requestWord true
 rowOf simple = headerRow 2 false holdsNothing (oneNumber ∷ oneChoice ∷ []) 0 simpleWord false
 rowOf complex = headerRow 3 true holdsNothing (oneNumber ∷ oneChoice ∷ []) 0 complexWord true
 rowOf segment = headerRow 4 false holdsNothing (oneNumber ∷ oneNumber ∷ oneNumber ∷ []) 0 segmentWord false
+rowOf error = headerRow 5 false holdsNothing (oneNumber ∷ oneChoice ∷ []) 2 errorWord false
+rowOf reject = headerRow 6 false holdsNothing (oneNumber ∷ oneNumber ∷ []) 0 rejectWord false
+rowOf abort = headerRow 7 false holdsServer (oneNumber ∷ oneNumber ∷ []) 0 abortWord false
 
 -- all of them
 abbrev pub kinds : List Kind
-kinds = request ∷ simple ∷ complex ∷ segment ∷ []
+kinds = request ∷ simple ∷ complex ∷ segment ∷ error ∷ reject ∷ abort ∷ []
 
 abbrev pub headerOf : program.Header → Header
 headerOf (h.ConfirmedRequest segments size id c) = header request (nibbles segments size ∷ number id ∷ choice c ∷ [])
 headerOf (h.SimpleAck id c) = header simple (number id ∷ choice c ∷ [])
 headerOf (h.ComplexAck id c) = header complex (number id ∷ choice c ∷ [])
 headerOf (h.SegmentAck id sequence window) = header segment (number id ∷ number sequence ∷ number window ∷ [])
+headerOf (h.ConfirmedBacnetError id c class code) = header error (number id ∷ choice c ∷ enumeration class ∷ enumeration code ∷ [])
+headerOf (h.Reject id reason) = header reject (number id ∷ number reason ∷ [])
+headerOf (h.Abort server id reason) = header abort (flag server ∷ number id ∷ number reason ∷ [])
 
 abbrev pub kindOf : kind.Kind → Kind
 kindOf k.Request = request
 kindOf k.Simple = simple
 kindOf k.Complex = complex
 kindOf k.Segment = segment
+kindOf k.Error = error
+kindOf k.Reject = reject
+kindOf k.Abort = abort
 
 -- the numbers of a header's fields, in their order
 abbrev pub fieldNumbers : List FieldValue → List ℕ

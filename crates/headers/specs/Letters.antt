@@ -5,6 +5,9 @@ use Prim.Native.Nat.{ℕ}
 abbrev pub a : ℕ
 a = 97
 
+abbrev pub b : ℕ
+b = 98
+
 abbrev pub c : ℕ
 c = 99
 
@@ -22,6 +25,9 @@ g = 103
 
 abbrev pub i : ℕ
 i = 105
+
+abbrev pub j : ℕ
+j = 106
 
 abbrev pub k : ℕ
 k = 107

@@ -72,3 +72,7 @@ paperHeader (r.Refused x) = refusal x
 abbrev pub paperPair : PairRead → Answer (List FieldValue)
 paperPair (p.Pair id c next) = accepted (number id ∷ choice c ∷ []) next
 paperPair (p.Refused x) = refusal x
+
+abbrev pub paperNumbers : PairRead → Answer (List FieldValue)
+paperNumbers (p.Pair a b next) = accepted (number a ∷ number b ∷ []) next
+paperNumbers (p.Refused x) = refusal x

@@ -1,10 +1,12 @@
 // The headers of confirmed services, by their fields.
 ghost use mathlib.Core.Path.{_≡_};
 ghost use mathlib.Core.List.{[], _∷_};
-ghost use Prim.Native.Nat.{_≤_};
+ghost use Prim.Native.Nat.{_≤_, _<_};
 ghost use lib.ListN.{length};
+ghost use Rattle.headers.specs.declared.kind.Kind.the-variants.{Error};
 ghost use Rattle.headers.specs.Header.{kindOf, headerOf, fieldNumbers};
 ghost use Rattle.types.specs.Padded.{padded};
+ghost use Rattle.tags.specs.Item.{booleanByte};
 use crate::kind::Kind;
 
 // A header; its fields stand in the order of their bytes, and a service choice is one of `confirmed_service_choice`.
@@ -28,6 +30,23 @@ pub enum Header {
         invoke_id: u8,
         sequence_num: u8,
         proposed_window_size: u8,
+    },
+    // The last two are enumerated values.
+    ConfirmedBacnetError {
+        invoke_id: u8,
+        service_choice: u8,
+        error_class: u32,
+        error_code: u32,
+    },
+    Reject {
+        invoke_id: u8,
+        reason: u8,
+    },
+    // The first is a bit of the control byte.
+    Abort {
+        server: bool,
+        invoke_id: u8,
+        reason: u8,
     },
 }
 
@@ -66,6 +85,21 @@ impl Header {
                 sequence_num: sequence,
                 proposed_window_size: window,
             } => of_bytes(Kind::Segment, 3, id, sequence, window, 0),
+            Header::ConfirmedBacnetError {
+                invoke_id: id,
+                service_choice: choice,
+                error_class: class,
+                error_code: code,
+            } => of_error(id, choice, class, code),
+            Header::Reject {
+                invoke_id: id,
+                reason,
+            } => of_bytes(Kind::Reject, 2, id, reason, 0, 0),
+            Header::Abort {
+                server,
+                invoke_id: id,
+                reason,
+            } => of_bytes(Kind::Abort, 3, bit(server), id, reason, 0),
         }
     }
 }
@@ -79,4 +113,23 @@ fn of_bytes(kind: Kind, count: usize, a: u8, b: u8, c: u8, d: u8) -> Description
         fields: [a as u32, b as u32, c as u32, d as u32],
         count,
     }
+}
+
+// The description of an error.
+fn of_error(id: u8, choice: u8, class: u32, code: u32) -> Description
+    ensures { λ r. ⌜ (r .kind ≡ Error) × (r .fields ≡ id ∷ choice ∷ class ∷ code ∷ []) × (r .count ≡ 4) ⌝ }
+{
+    Description {
+        kind: Kind::Error,
+        fields: [id as u32, choice as u32, class, code],
+        count: 4,
+    }
+}
+
+// The bit that stands for a flag.
+pub(crate) fn bit(set: bool) -> u8
+    ensures { λ r. ⌜ r ≡ booleanByte set ⌝ }
+    ensures { λ r. ⌜ r < 2 ⌝ }
+{
+    if set { 1 } else { 0 }
 }

@@ -14,12 +14,21 @@ pub(crate) const COMPLEX_ACK: u8 = 3;
 
 pub(crate) const SEGMENT_ACK: u8 = 4;
 
+pub(crate) const ERROR: u8 = 5;
+
+pub(crate) const REJECT: u8 = 6;
+
+pub(crate) const ABORT: u8 = 7;
+
 // A kind of header.
 pub enum Kind {
     Request,
     Simple,
     Complex,
     Segment,
+    Error,
+    Reject,
+    Abort,
 }
 
 // What is known of a kind: its type of PDU by number, whether tags follow its header, and its word, the first `letters` of eight bytes, the rest 0.
@@ -44,6 +53,9 @@ impl Kind {
             Kind::Simple => known(SIMPLE_ACK, false, *b"simple\0\0", 6),
             Kind::Complex => known(COMPLEX_ACK, true, *b"complex\0", 7),
             Kind::Segment => known(SEGMENT_ACK, false, *b"segment\0", 7),
+            Kind::Error => known(ERROR, false, *b"error\0\0\0", 5),
+            Kind::Reject => known(REJECT, false, *b"reject\0\0", 6),
+            Kind::Abort => known(ABORT, false, *b"abort\0\0\0", 5),
         }
     }
 }

@@ -4,13 +4,17 @@ ghost use mathlib.Core.List.{[], _∷_};
 ghost use Prim.Native.Nat.{_≤_, _<_};
 ghost use lib.ListN.{length};
 ghost use Rattle.types.specs.Writing.{can, paperWritten, left, writing};
-ghost use Rattle.headers.specs.declared.header.Header.the-variants.{ConfirmedRequest};
+ghost use Rattle.headers.specs.declared.header.Header.the-variants.{ConfirmedRequest, ConfirmedBacnetError};
 ghost use Rattle.headers.specs.Header.{accepting, headerOf};
 ghost use Rattle.headers.specs.Writing.{choiceWritable, headerTo};
 use crate::confirmed_service_choice::AUDIT_LOG_QUERY;
 use crate::header::Header;
+use crate::header::bit;
+use crate::kind::ABORT;
 use crate::kind::COMPLEX_ACK;
 use crate::kind::CONFIRMED_REQUEST;
+use crate::kind::ERROR;
+use crate::kind::REJECT;
 use crate::kind::SEGMENT_ACK;
 use crate::kind::SIMPLE_ACK;
 use types::Refusal;
@@ -26,6 +30,14 @@ pub fn encode(header: Header, buf: &mut [u8], place: usize) -> Written
     if buf.len() < place {
         return Written::Refused(Refusal::PlacePastEnd(place));
     }
+    put(header, buf, place)
+}
+
+// Writes a header at a place inside the buffer, kind by kind.
+fn put(header: Header, buf: &mut [u8], place: usize) -> Written
+    requires { ⌜ (length (now buf) ≤ 65535) × (place ≤ length (now buf)) ⌝ }
+    ensures { λ r. ⌜ left (paperWritten r) (now (buf .exit)) ≡ headerTo (headerOf header) (now (buf .entry)) place ⌝ }
+{
     match header {
         Header::ConfirmedRequest {
             max_segments,
@@ -43,11 +55,11 @@ pub fn encode(header: Header, buf: &mut [u8], place: usize) -> Written
         Header::SimpleAck {
             invoke_id,
             service_choice,
-        } => three(SIMPLE_ACK * 16, invoke_id, service_choice, buf, place),
+        } => chosen(SIMPLE_ACK * 16, invoke_id, service_choice, buf, place),
         Header::ComplexAck {
             invoke_id,
             service_choice,
-        } => three(COMPLEX_ACK * 16, invoke_id, service_choice, buf, place),
+        } => chosen(COMPLEX_ACK * 16, invoke_id, service_choice, buf, place),
         Header::SegmentAck {
             invoke_id,
             sequence_num,
@@ -63,6 +75,25 @@ pub fn encode(header: Header, buf: &mut [u8], place: usize) -> Written
                 place,
             )
         }
+        Header::ConfirmedBacnetError {
+            invoke_id,
+            service_choice,
+            error_class,
+            error_code,
+        } => error(
+            invoke_id,
+            service_choice,
+            error_class,
+            error_code,
+            buf,
+            place,
+        ),
+        Header::Reject { invoke_id, reason } => three(REJECT * 16, invoke_id, reason, buf, place),
+        Header::Abort {
+            server,
+            invoke_id,
+            reason,
+        } => three(ABORT * 16 + bit(server), invoke_id, reason, buf, place),
     }
 }
 
@@ -90,20 +121,51 @@ fn request(segments: u8, size: u8, id: u8, service: u8, buf: &mut [u8], place: u
     )
 }
 
+// Writes the header of an error: its fixed bytes, then class and code.
+fn error(id: u8, choice: u8, class: u32, code: u32, buf: &mut [u8], place: usize) -> Written
+    requires { ⌜ (length (now buf) ≤ 65535) × (place ≤ length (now buf)) ⌝ }
+    ensures { λ r. ⌜ left (paperWritten r) (now (buf .exit)) ≡ headerTo (headerOf (ConfirmedBacnetError id choice class code)) (now (buf .entry)) place ⌝ }
+{
+    if AUDIT_LOG_QUERY < choice {
+        return Written::Refused(Refusal::ServiceChoiceTooLarge(choice));
+    }
+    // A class or a code has four bytes at the most, so each has a tag of one byte.
+    let len = 5 + numbers::unsigned_length(class as u64) + numbers::unsigned_length(code as u64);
+    if buf.len() - place < len {
+        return Written::Refused(Refusal::NoRoom(len));
+    }
+    buf[place] = ERROR * 16;
+    buf[place + 1] = id;
+    buf[place + 2] = choice;
+    // Room was tested for both, so they are written.
+    match values::encode_application_enumerated(class, buf, place + 3) {
+        Written::To(next) => values::encode_application_enumerated(code, buf, next),
+        Written::Refused(r) => Written::Refused(r),
+    }
+}
+
 // Writes a control byte, an invoke id and a service choice.
-fn three(control: u8, id: u8, choice: u8, buf: &mut [u8], place: usize) -> Written
+fn chosen(control: u8, id: u8, choice: u8, buf: &mut [u8], place: usize) -> Written
     requires { ⌜ (length (now buf) ≤ 65535) × (place ≤ length (now buf)) ⌝ }
     ensures { λ r. ⌜ left (paperWritten r) (now (buf .exit)) ≡ writing 0 (choiceWritable choice) (control ∷ id ∷ choice ∷ []) (now (buf .entry)) place ⌝ }
 {
     if AUDIT_LOG_QUERY < choice {
         return Written::Refused(Refusal::ServiceChoiceTooLarge(choice));
     }
+    three(control, id, choice, buf, place)
+}
+
+// Writes three bytes.
+fn three(first: u8, second: u8, third: u8, buf: &mut [u8], place: usize) -> Written
+    requires { ⌜ (length (now buf) ≤ 65535) × (place ≤ length (now buf)) ⌝ }
+    ensures { λ r. ⌜ left (paperWritten r) (now (buf .exit)) ≡ writing 0 can (first ∷ second ∷ third ∷ []) (now (buf .entry)) place ⌝ }
+{
     if buf.len() - place < 3 {
         return Written::Refused(Refusal::NoRoom(3));
     }
-    buf[place] = control;
-    buf[place + 1] = id;
-    buf[place + 2] = choice;
+    buf[place] = first;
+    buf[place + 1] = second;
+    buf[place + 2] = third;
     Written::To(place + 3)
 }
 

@@ -1,8 +1,8 @@
 -- `headers::header_after` meets its contract: at each return the type and bit 3 say which row the control byte tells, if any.
 -- Assumes nothing.
-use borrow.Author.Needs.{needs}
 use borrow.Author.Tests.{eq-eqb, ne-eqb}
 use Rattle.headers.specs.Reading.{headerAfter}
+use borrow.Author.Needs.{needs}
 use Rattle.headers.proofs.reading.header_after.Statement.{statement}
 use Rattle.headers.proofs.reading.header_after.Tie as tie
 
@@ -17,6 +17,15 @@ complex-ack-requires c κs = search needs
 
 segment-ack-requires : tie.Need-segment-ack-requires
 segment-ack-requires c κs = search needs
+
+error-requires : tie.Need-error-requires
+error-requires c κs = search needs
+
+reject-requires : tie.Need-reject-requires
+reject-requires c κs = search needs
+
+abort-requires : tie.Need-abort-requires
+abort-requires c κs = search needs
 
 returns : tie.Need-returns
 unfolding headerAfter
@@ -44,7 +53,38 @@ returns-6 c = simp (c .before .match .keys4) (c .segment-ack .ensures)
 
 returns-7 : tie.Need-returns-7
 unfolding headerAfter
-returns-7 c = simp (ne-eqb _ _ (c .match .rest .0 .0 .0 .1), ne-eqb _ _ (c .match .rest .0 .0 .1), ne-eqb _ _ (c .match .rest .0 .1), ne-eqb _ _ (c .match .rest .1))
+returns-7 c = simp (c .before .match .keys5) (c .error .ensures)
+
+returns-8 : tie.Need-returns-8
+unfolding headerAfter
+returns-8 c = simp (c .before .match .keys6) (c .reject .ensures)
+
+returns-9 : tie.Need-returns-9
+unfolding headerAfter
+returns-9 c = simp (c .before .match .keys7) (c .abort .ensures)
+
+returns-10 : tie.Need-returns-10
+unfolding headerAfter
+returns-10 c = simp (ne-eqb _ _ (c .match .rest .0 .0 .0 .0 .0 .0 .1), ne-eqb _ _ (c .match .rest .0 .0 .0 .0 .0 .1), ne-eqb _ _ (c .match .rest .0 .0 .0 .0 .1), ne-eqb _ _ (c .match .rest .0 .0 .0 .1), ne-eqb _ _ (c .match .rest .0 .0 .1), ne-eqb _ _ (c .match .rest .0 .1), ne-eqb _ _ (c .match .rest .1))
 
 pub header-after-spec : {M : Type 1} → statement M
-header-after-spec = tie.close (tie.spec confirmed-request-requires simple-ack-requires complex-ack-requires segment-ack-requires returns returns-2 returns-3 returns-4 returns-5 returns-6 returns-7)
+header-after-spec =
+    tie.close
+    (tie.spec
+    confirmed-request-requires
+    simple-ack-requires
+    complex-ack-requires
+    segment-ack-requires
+    error-requires
+    reject-requires
+    abort-requires
+    returns
+    returns-2
+    returns-3
+    returns-4
+    returns-5
+    returns-6
+    returns-7
+    returns-8
+    returns-9
+    returns-10)

@@ -29,6 +29,24 @@ enum-told-4 c = search needs
 known-requires-4 : tie.Need-known-requires-4
 known-requires-4 c κs = search needs
 
+enum-told-5 : tie.Need-enum-told-5
+enum-told-5 c = search needs
+
+known-requires-5 : tie.Need-known-requires-5
+known-requires-5 c κs = search needs
+
+enum-told-6 : tie.Need-enum-told-6
+enum-told-6 c = search needs
+
+known-requires-6 : tie.Need-known-requires-6
+known-requires-6 c κs = search needs
+
+enum-told-7 : tie.Need-enum-told-7
+enum-told-7 c = search needs
+
+known-requires-7 : tie.Need-known-requires-7
+known-requires-7 c κs = search needs
+
 returns : tie.Need-returns
 returns c = rw (c .before .before .before .enum-told .given .1) (c .known .ensures .0, (c .known .ensures .1, (c .known .ensures .2, (c .known .ensures .3, omega (arith, c .known .ensures .3)))))
 
@@ -40,6 +58,15 @@ returns-3 c = rw (c .before .before .before .enum-told3 .given .1) (c .known3 .e
 
 returns-4 : tie.Need-returns-4
 returns-4 c = rw (c .before .before .before .enum-told4 .given .1) (c .known4 .ensures .0, (c .known4 .ensures .1, (c .known4 .ensures .2, (c .known4 .ensures .3, omega (arith, c .known4 .ensures .3)))))
+
+returns-5 : tie.Need-returns-5
+returns-5 c = rw (c .before .before .before .enum-told5 .given .1) (c .known5 .ensures .0, (c .known5 .ensures .1, (c .known5 .ensures .2, (c .known5 .ensures .3, omega (arith, c .known5 .ensures .3)))))
+
+returns-6 : tie.Need-returns-6
+returns-6 c = rw (c .before .before .before .enum-told6 .given .1) (c .known6 .ensures .0, (c .known6 .ensures .1, (c .known6 .ensures .2, (c .known6 .ensures .3, omega (arith, c .known6 .ensures .3)))))
+
+returns-7 : tie.Need-returns-7
+returns-7 c = rw (c .before .before .before .enum-told7 .given .1) (c .known7 .ensures .0, (c .known7 .ensures .1, (c .known7 .ensures .2, (c .known7 .ensures .3, omega (arith, c .known7 .ensures .3)))))
 
 pub row-spec : {M : Type 1} → statement M
 row-spec =
@@ -53,7 +80,16 @@ row-spec =
     known-requires-3
     enum-told-4
     known-requires-4
+    enum-told-5
+    known-requires-5
+    enum-told-6
+    known-requires-6
+    enum-told-7
+    known-requires-7
     returns
     returns-2
     returns-3
-    returns-4)
+    returns-4
+    returns-5
+    returns-6
+    returns-7)
