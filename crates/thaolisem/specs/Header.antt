@@ -1,4 +1,4 @@
--- The header that a PDU type and its fields, in their order, name; a field that the type has not is not read, and one too large for its byte names nothing.
+-- The header that a PDU type and its fields, in their order, name; a field that the type has not is not read, and one too large for its place names nothing.
 -- Assumes nothing.
 use Prim.Native.Nat.{ℕ}
 use mathlib.Core.List.{List, [], _∷_}
@@ -6,9 +6,9 @@ use mathlib.Core.Option.{Option, none, some}
 use lib.Dec.{eqb}
 use Rattle.types.specs.Choice.{if}
 use Rattle.types.specs.Writing.{Left}
-use Rattle.headers.specs.Header.{Header, header, request, simple, complex, segment, nibbles, number, choice, headerOf}
+use Rattle.headers.specs.Header.{Header, header, request, simple, complex, segment, error, reject, abort, nibbles, number, choice, flag, enumeration, headerOf}
 use Rattle.headers.specs.Writing.{headerTo}
-use Rattle.thaolisem.specs.Named.{fitBytes, namedTo}
+use Rattle.thaolisem.specs.Named.{ifAtMost, fitBytes, namedTo}
 use Rattle.thaolisem.specs.declared.kind.HeaderNamed as program
 use Rattle.thaolisem.specs.declared.kind.HeaderNamed.the-variants as h
 
@@ -27,11 +27,28 @@ acknowledgementNamed kind i c =
     none))
     none
 
+-- a class and a code have 32 bits
+unfoldable pub errorNamed : (id service class code : ℕ) → Option Header
+errorNamed i c class code =
+    ifAtMost 4294967295 class
+    (ifAtMost 4294967295 code
+    (if (fitBytes i c 0 0) (some (header error (number i ∷ choice c ∷ enumeration class ∷ enumeration code ∷ []))) none))
+
+unfoldable pub rejectNamed : (id reason : ℕ) → Option Header
+rejectNamed i r = if (fitBytes i r 0 0) (some (header reject (number i ∷ number r ∷ []))) none
+
+-- a server flag is 0 or 1
+unfoldable pub abortNamed : (server id reason : ℕ) → Option Header
+abortNamed s i r = ifAtMost 1 s (if (fitBytes i r 0 0) (some (header abort (flag (eqb s 1) ∷ number i ∷ number r ∷ []))) none)
+
 unfoldable pub headerNamed : (kind first second third fourth : ℕ) → Option Header
 headerNamed kind a b c d =
     if (eqb kind 0) (requestNamed a b c d)
     (if (eqb kind 4) (segmentNamed a b c)
-    (acknowledgementNamed kind a b))
+    (if (eqb kind 5) (errorNamed a b c d)
+    (if (eqb kind 6) (rejectNamed a b)
+    (if (eqb kind 7) (abortNamed a b c)
+    (acknowledgementNamed kind a b)))))
 
 -- what writing it at a place of a buffer answers and leaves
 unfoldable pub headerNamedTo : (kind first second third fourth : ℕ) → List ℕ → (place : ℕ) → Left

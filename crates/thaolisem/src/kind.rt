@@ -1,6 +1,6 @@
 // The headers that a PDU type and its fields name.
 ghost use mathlib.Core.Path.{_≡_};
-ghost use Rattle.thaolisem.specs.Header.{paperHeaderNamed, requestNamed, acknowledgementNamed, segmentNamed, headerNamed};
+ghost use Rattle.thaolisem.specs.Header.{paperHeaderNamed, requestNamed, acknowledgementNamed, segmentNamed, errorNamed, rejectNamed, abortNamed, headerNamed};
 use crate::bytes::fit_bytes;
 use headers::Header;
 
@@ -17,6 +17,9 @@ pub(crate) fn header_named(kind: u8, a: u64, b: u64, c: u64, d: u64) -> HeaderNa
     match kind {
         0 => request_named(a, b, c, d),
         4 => segment_named(a, b, c),
+        5 => error_named(a, b, c, d),
+        6 => reject_named(a, b),
+        7 => abort_named(a, b, c),
         _ => acknowledgement_named(kind, a, b),
     }
 }
@@ -65,6 +68,57 @@ fn segment_named(id: u64, sequence: u64, window: u64) -> HeaderNamed
             invoke_id: id as u8,
             sequence_num: sequence as u8,
             proposed_window_size: window as u8,
+        });
+    }
+    HeaderNamed::Nothing
+}
+
+// The error of an invoke id, a service choice, a class and a code.
+fn error_named(id: u64, choice: u64, class: u64, code: u64) -> HeaderNamed
+    ensures { λ r. ⌜ paperHeaderNamed r ≡ errorNamed id choice class code ⌝ }
+{
+    if 4294967295 < class {
+        return HeaderNamed::Nothing;
+    }
+    if 4294967295 < code {
+        return HeaderNamed::Nothing;
+    }
+    if fit_bytes(id, choice, 0, 0) {
+        return HeaderNamed::Header(Header::ConfirmedBacnetError {
+            invoke_id: id as u8,
+            service_choice: choice as u8,
+            error_class: class as u32,
+            error_code: code as u32,
+        });
+    }
+    HeaderNamed::Nothing
+}
+
+// The reject of an invoke id and a reason.
+fn reject_named(id: u64, reason: u64) -> HeaderNamed
+    ensures { λ r. ⌜ paperHeaderNamed r ≡ rejectNamed id reason ⌝ }
+{
+    if fit_bytes(id, reason, 0, 0) {
+        return HeaderNamed::Header(Header::Reject {
+            invoke_id: id as u8,
+            reason: reason as u8,
+        });
+    }
+    HeaderNamed::Nothing
+}
+
+// The abort of a server or a client, of an invoke id and a reason.
+fn abort_named(server: u64, id: u64, reason: u64) -> HeaderNamed
+    ensures { λ r. ⌜ paperHeaderNamed r ≡ abortNamed server id reason ⌝ }
+{
+    if 1 < server {
+        return HeaderNamed::Nothing;
+    }
+    if fit_bytes(id, reason, 0, 0) {
+        return HeaderNamed::Header(Header::Abort {
+            server: server == 1,
+            invoke_id: id as u8,
+            reason: reason as u8,
         });
     }
     HeaderNamed::Nothing

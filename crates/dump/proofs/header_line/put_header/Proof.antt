@@ -5,13 +5,19 @@ use Rattle.headers.specs.Header.{headerOf, kindOf, rowOf, fieldNumbers}
 use Rattle.types.proofs.Padded.{padded-length}
 use Rattle.dump.proofs.HeaderLines.{header-line}
 use native.Mathlib.Omega.{arith}
-use Prim.Native.Nat.{_-_, _≤_}
+use Prim.Native.Nat.{ℕ, _-_, _≤_}
 use lib.ListN.{length, take, getD, length-take}
 use mathlib.Core.Path.{_≡_, ap}
 use mathlib.Core.List.{[], _∷_}
+use mir.Syntax.{w64}
+use mir.Val.{Fits}
 use borrow.Author.Needs.{needs}
 use Rattle.dump.proofs.header_line.put_header.Statement.{statement}
 use Rattle.dump.proofs.header_line.put_header.Tie as tie
+
+-- each number of the array has 64 bits
+field-fits : (c : tie.After-fields) (i : ℕ) → Fits w64 (getD (c .before .before .before .described .result .fields) i 0)
+field-fits c i = search needs
 
 described-requires : tie.Need-described-requires
 described-requires c κs = search needs
@@ -41,7 +47,7 @@ array-read-t27 : tie.Need-array-read-t27
 array-read-t27 c = search needs
 
 cast-t28 : tie.Need-cast-t28
-cast-t28 c = search needs
+cast-t28 c = field-fits c 3
 
 slice-aggregate-put-words : tie.Need-slice-aggregate-put-words
 slice-aggregate-put-words c = search needs
