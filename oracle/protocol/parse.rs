@@ -128,6 +128,16 @@ fn header(name: &str, words: &mut Words) -> Option<Header> {
             sequence: words.number()?,
             window: words.number()?,
         },
+        "err" => Header::Error {
+            id: words.number()?,
+            choice: words.number()?,
+            class: words.number()?,
+            code: words.number()?,
+        },
+        "rej" => Header::Reject { id: words.number()?, reason: words.number()? },
+        "abt" => {
+            Header::Abort { server: words.bit()?, id: words.number()?, reason: words.number()? }
+        }
         _ => return None,
     })
 }

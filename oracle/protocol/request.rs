@@ -78,6 +78,9 @@ pub enum Header {
     Simple { id: u8, choice: u8 },
     Complex { id: u8, choice: u8 },
     Segment { id: u8, sequence: u8, window: u8 },
+    Error { id: u8, choice: u8, class: u32, code: u32 },
+    Reject { id: u8, reason: u8 },
+    Abort { server: bool, id: u8, reason: u8 },
 }
 
 // A header as the answers print it: kind and fields.
@@ -91,6 +94,13 @@ impl fmt::Display for Header {
             Header::Complex { id, choice } => write!(out, "complex {id} {choice}"),
             Header::Segment { id, sequence, window } => {
                 write!(out, "segment {id} {sequence} {window}")
+            }
+            Header::Error { id, choice, class, code } => {
+                write!(out, "error {id} {choice} {class} {code}")
+            }
+            Header::Reject { id, reason } => write!(out, "reject {id} {reason}"),
+            Header::Abort { server, id, reason } => {
+                write!(out, "abort {} {id} {reason}", u8::from(*server))
             }
         }
     }
