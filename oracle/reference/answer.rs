@@ -101,7 +101,7 @@ fn accepted(what: &Read, long: LongBlockTags, buf: &[u8], place: usize) -> Resul
         Read::ExpectNumber(name) => format!("ok - {}", expected(*name, long, buf, place)?.1),
         Read::ExpectValue(value) => format!("ok - {}", expected_value(*value, long, buf, place)?.1),
         Read::Value => printed(value(long, buf, place)?),
-        Read::Header => printed(header(buf, place)?),
+        Read::Header => printed(header(long, buf, place)?),
         Read::Utf8 => utf8::check(&buf[place..]).map(|()| "ok".to_string())?,
         Read::Body { .. } | Read::BodyFor { .. } | Read::OptionalBody { .. } | Read::Walk => {
             unreachable!()

@@ -15,6 +15,15 @@ pub fn unsigned(len: u32, buf: &[u8], place: usize) -> Result<(u64, usize), Refu
     Ok((number(bytes) as u64, next))
 }
 
+// An unsigned of 32 bits, else 18.
+pub fn enumerated(len: u32, buf: &[u8], place: usize) -> Result<(u32, usize), Refusal> {
+    let (value, next) = unsigned(len, buf, place)?;
+    match u32::try_from(value) {
+        Ok(value) => Ok((value, next)),
+        Err(_) => refuse(18, 0),
+    }
+}
+
 pub fn signed(len: u32, buf: &[u8], place: usize) -> Result<(i64, usize), Refusal> {
     let (bytes, next) = content(len, buf, place)?;
     let magnitude = number(bytes);

@@ -1,5 +1,5 @@
 // Values read: the answer's case and fields, and the place after the value.
-use crate::integers::{number, signed, unsigned};
+use crate::integers::{enumerated, number, signed, unsigned};
 use crate::reading::{byte, slice};
 use crate::refusal::{refuse, Refusal};
 use crate::tags::{tag, LongBlockTags};
@@ -24,7 +24,7 @@ pub fn value(long: LongBlockTags, buf: &[u8], place: usize) -> Result<(String, u
         6 => octets(len, buf, next),
         7 => text(len, buf, next),
         8 => bits(len, buf, next),
-        9 => enumerated(len, buf, next),
+        9 => enumerated(len, buf, next).map(|(value, next)| (format!("Enumerated {value}"), next)),
         10 => date(len, buf, next),
         11 => time(len, buf, next),
         12 => object_id(len, buf, next),
@@ -89,14 +89,6 @@ fn bits(len: u32, buf: &[u8], place: usize) -> Result<(String, usize), Refusal> 
     let (unused, start) = byte(buf, place)?;
     let (_, next) = slice(len as usize - 1, buf, start)?;
     Ok((format!("Bits {unused} {start} {}", len - 1), next))
-}
-
-fn enumerated(len: u32, buf: &[u8], place: usize) -> Result<(String, usize), Refusal> {
-    let (value, next) = unsigned(len, buf, place)?;
-    if value > 4_294_967_295 {
-        return refuse(18, 0);
-    }
-    Ok((format!("Enumerated {value}"), next))
 }
 
 fn date(len: u32, buf: &[u8], place: usize) -> Result<(String, usize), Refusal> {
