@@ -1,4 +1,5 @@
 // Headers, asked of the given Rust; the control byte, which it leaves to a file that is not there, is looked at here.
+use crate::error_frames;
 use crate::errors::refusal;
 use embedded_bacnet::application_protocol::confirmed::{
     ComplexAck, ComplexAckService, ConfirmedRequest, ConfirmedRequestService,
@@ -25,10 +26,15 @@ pub fn read(reader: &mut Reader, buf: &[u8]) -> Option<String> {
             sequence: ack.sequence_num,
             window: ack.proposed_window_size,
         }),
+        (5, _) => error_frames::read(reader, buf),
         _ => return None,
     };
     match header {
         Ok(header) => Some(format!("ok {header} {}", reader.index)),
+        Err(Error::ExpectedTag(tag)) => {
+            let at = error_frames::place_of(tag.context, buf, place)?;
+            refusal(Error::ExpectedTag(tag), buf, at)
+        }
         Err(error) => refusal(error, buf, place),
     }
 }
@@ -61,7 +67,7 @@ fn complex(reader: &mut Reader, buf: &[u8]) -> Result<Header, Error> {
     Ok(Header::Complex { id: ack.invoke_id, choice: choice as u8 })
 }
 
-// Writes a header; none where the Rust has no such choice or service, or no name for a nibble.
+// Writes a header; none where the Rust has no such choice, service or writer, or no name for a nibble.
 pub fn write(header: Header, writer: &mut Writer) -> Option<()> {
     match header {
         Header::Request { segments, size, id, choice } => {
@@ -84,6 +90,7 @@ pub fn write(header: Header, writer: &mut Writer) -> Option<()> {
             SegmentAck { invoke_id: id, sequence_num: sequence, proposed_window_size: window }
                 .encode(writer);
         }
+        Header::Error { .. } | Header::Reject { .. } | Header::Abort { .. } => return None,
     }
     Some(())
 }

@@ -1,4 +1,5 @@
 // Asks the given Rust, one request a line; `panic` where it panics, `none` where it has no such call.
+mod error_frames;
 mod errors;
 mod headers;
 mod reading;

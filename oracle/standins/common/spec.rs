@@ -1,4 +1,4 @@
-// Stand-in for common/spec.rs, which is not there: enums of one case and flags of one byte, never compared.
+// Stand-in for common/spec.rs, which is not there: enums of one case and flags of one byte, never compared, and an error's class and code, which are any number.
 macro_rules! numbered {
     ($($name:ident)*) => {$(
         #[derive(Debug, Clone)]
@@ -11,6 +11,23 @@ macro_rules! numbered {
 
             fn try_from(number: u32) -> Result<Self, u32> {
                 Err(number)
+            }
+        }
+    )*};
+}
+
+macro_rules! any_number {
+    ($($name:ident)*) => {$(
+        #[derive(Debug, Clone)]
+        pub struct $name {
+            pub number: u32,
+        }
+
+        impl TryFrom<u32> for $name {
+            type Error = u32;
+
+            fn try_from(number: u32) -> Result<Self, u32> {
+                Ok(Self { number })
             }
         }
     )*};
@@ -31,5 +48,6 @@ macro_rules! flags {
     )*};
 }
 
-numbered!(Binary EngineeringUnits EventState LoggingType NotifyType ErrorClass ErrorCode);
+numbered!(Binary EngineeringUnits EventState LoggingType NotifyType);
+any_number!(ErrorClass ErrorCode);
 flags!(Status LogBufferResult);
