@@ -6,6 +6,9 @@ use reference::tags::{tag, LongBlockTags};
 use reference::utf8;
 use reference::writing::lent;
 
+const NO_REJECT: &str = "the Rust has no reject";
+const NO_ABORT: &str = "the Rust has no abort";
+
 pub struct Outside {
     pub why: &'static str,
     pub answer: Option<String>,
@@ -78,7 +81,9 @@ fn header(frame: &[u8]) -> Option<Outside> {
             body_read(choice, &[12, 14, 15, 26])
         }
         (3, 0) => body_read(*frame.get(2)?, &[12, 14, 26]),
-        (2, _) | (4, _) => None,
+        (2, _) | (4, _) | (5, _) => None,
+        (6, _) => answering(NO_REJECT, "none"),
+        (7, _) => answering(NO_ABORT, "none"),
         (0, _) | (3, _) => answering("segment bit set", "none"),
         _ => answering("other PDU type", "none"),
     }
@@ -113,6 +118,9 @@ fn write(what: &Write) -> Option<Outside> {
         Write::Header(Header::Simple { choice, .. }) if *choice > LAST_CHOICE + 1 => {
             answering("choice that the Rust cannot hold", "none")
         }
+        Write::Header(Header::Error { .. }) => answering("the Rust writes no error", "none"),
+        Write::Header(Header::Reject { .. }) => answering(NO_REJECT, "none"),
+        Write::Header(Header::Abort { .. }) => answering(NO_ABORT, "none"),
         _ => None,
     }
 }

@@ -1,5 +1,6 @@
 // Judges one request: whether the port answers as 01 asks, and the Rust as 01 says that it does.
 mod domain;
+mod errors;
 mod kept;
 mod reads;
 mod writes;

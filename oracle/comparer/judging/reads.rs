@@ -1,5 +1,5 @@
 // Rows of 01 that concern reading: what each says that the Rust answers.
-use crate::judging::Rust;
+use crate::judging::{errors, Rust};
 use protocol::{Class, Header, Read};
 use reference::integers::{number, unsigned};
 use reference::reading::{byte, slice};
@@ -11,6 +11,9 @@ pub fn rust(what: &Read, buf: &[u8], place: usize, ordinary: &str) -> Option<Rus
     let by_row = match what {
         Read::Unsigned(0) | Read::Signed(0) => Rust::panics("panic: integer of length 0"),
         Read::Value => value(buf, place),
+        Read::Header if buf.get(place).is_some_and(|control| control >> 4 == 5) => {
+            Some(errors::rust(buf, place))
+        }
         Read::Header => marker_choice(buf, place),
         _ => None,
     };
