@@ -1,5 +1,6 @@
 //! The program in words: answers each request by the Rust crate over the static library, and by its raw calls where the crate's types cannot say what is asked.
 //! `oracle/compare` holds it to the given Rust and to 01 read a second time; nothing that it answers comes from there.
+mod headers;
 mod raw;
 mod reading;
 mod segments;

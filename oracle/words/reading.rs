@@ -1,5 +1,5 @@
 //! Reads, asked of the crate.
-use crate::{named, printed, raw, refused};
+use crate::{headers, named, printed, raw, refused};
 use protocol::Read;
 use thaolisem::*;
 
@@ -70,7 +70,7 @@ fn read(what: &Read, reader: &mut Reader, buf: &[u8]) -> Result<String, Refusal>
         Read::ExpectNumber(name) => expected(reader, buf, |tag| tag.expect_number(named(*name)))?,
         Read::ExpectValue(value) => expected(reader, buf, |tag| tag.expect_value(*value))?,
         Read::Value => value(ApplicationDataValue::decode(reader, buf)?, buf),
-        Read::Header => header(Header::decode(reader, buf)?),
+        Read::Header => headers::printed(Header::decode(reader, buf)?),
         Read::Part(len) => {
             return Ok(format!("ok {}", hex(reader.read_slice(*len as usize, buf)?)))
         }
@@ -122,19 +122,5 @@ fn value(value: ApplicationDataValue, buf: &[u8]) -> String {
         ApplicationDataValue::Enumerated(x) => format!("Enumerated {x}"),
         ApplicationDataValue::UnsignedInt(x) => format!("Unsigned {x}"),
         ApplicationDataValue::SignedInt(x) => format!("Signed {x}"),
-    }
-}
-
-fn header(header: Header) -> String {
-    match header {
-        Header::ConfirmedRequest(x) => {
-            let choice = x.service_choice as u8;
-            format!("request {} {} {} {choice}", x.max_segments, x.max_adpu, x.invoke_id)
-        }
-        Header::SimpleAck(x) => format!("simple {} {}", x.invoke_id, x.service_choice as u8),
-        Header::ComplexAck(x) => format!("complex {} {}", x.invoke_id, x.service_choice as u8),
-        Header::SegmentAck(x) => {
-            format!("segment {} {} {}", x.invoke_id, x.sequence_num, x.proposed_window_size)
-        }
     }
 }

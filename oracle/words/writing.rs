@@ -1,5 +1,5 @@
 //! Writes, asked of the crate.
-use crate::{named, raw, refused};
+use crate::{headers, named, raw, refused};
 use protocol::{put_hex, Write};
 use thaolisem::*;
 
@@ -31,7 +31,7 @@ fn write(what: &Write, writer: &mut Writer) -> Result<(), Refusal> {
             Ok(value) => value.encode(writer),
             Err(text) => raw::text(text, writer),
         },
-        Write::Header(header) => match named_header(header) {
+        Write::Header(header) => match headers::named(header) {
             Some(header) => header.encode(writer),
             None => raw::header(*header, writer),
         },
@@ -65,31 +65,5 @@ fn named_value(value: &protocol::Value) -> Result<ApplicationDataValue<'_>, &[u8
         protocol::Value::Enumerated(x) => ApplicationDataValue::Enumerated(*x),
         protocol::Value::Unsigned(x) => ApplicationDataValue::UnsignedInt(*x),
         protocol::Value::Signed(x) => ApplicationDataValue::SignedInt(*x),
-    })
-}
-
-/// The crate's header; none where it has no name for the service choice.
-fn named_header(header: &protocol::Header) -> Option<Header> {
-    let choice = |number: u8| ConfirmedServiceChoice::try_from(number).ok();
-    Some(match *header {
-        protocol::Header::Request { segments, size, id, choice: number } => {
-            Header::ConfirmedRequest(ConfirmedRequest {
-                max_segments: segments,
-                max_adpu: size,
-                invoke_id: id,
-                service_choice: choice(number)?,
-            })
-        }
-        protocol::Header::Simple { id, choice: number } => {
-            Header::SimpleAck(SimpleAck { invoke_id: id, service_choice: choice(number)? })
-        }
-        protocol::Header::Complex { id, choice: number } => {
-            Header::ComplexAck(ComplexAck { invoke_id: id, service_choice: choice(number)? })
-        }
-        protocol::Header::Segment { id, sequence, window } => Header::SegmentAck(SegmentAck {
-            invoke_id: id,
-            sequence_num: sequence,
-            proposed_window_size: window,
-        }),
     })
 }
