@@ -117,5 +117,12 @@ fn encode_header(header: &Header) -> String {
         Header::Segment { id, sequence, window } => {
             format!("encode_header 4 {id} {sequence} {window} 0")
         }
+        Header::Error { id, choice, class, code } => {
+            format!("encode_header 5 {id} {choice} {class} {code}")
+        }
+        Header::Reject { id, reason } => format!("encode_header 6 {id} {reason} 0 0"),
+        Header::Abort { server, id, reason } => {
+            format!("encode_header 7 {} {id} {reason} 0", u8::from(*server))
+        }
     }
 }

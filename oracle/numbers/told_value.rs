@@ -28,6 +28,9 @@ pub fn header(words: &mut Words) -> Option<Vec<u64>> {
         "simple" => numbered(2, 2, words),
         "complex" => numbered(3, 2, words),
         "segment" => numbered(4, 3, words),
+        "error" => numbered(5, 4, words),
+        "reject" => numbered(6, 2, words),
+        "abort" => Some(vec![7, u64::from(words.bit()?), words.number()?, words.number()?]),
         _ => None,
     }
 }
