@@ -99,7 +99,7 @@ pub fn write(random: &mut Random) -> String {
     let value = random.integer();
     let choice =
         if random.once_in(2) { random.of(&[5, 12, 14, 15, 26, 33, 34]) } else { random.byte() };
-    let ask = match random.below(12) {
+    let ask = match random.below(15) {
         0 => format!("wtag {class} {number} {}", value as u32),
         1 => format!("wuns {context} {value}"),
         2 => format!("wsig {context} {}", value as i64),
@@ -109,6 +109,12 @@ pub fn write(random: &mut Random) -> String {
         6 => format!("wcom {} {choice}", random.byte()),
         7 => format!("wseg {} {} {}", random.byte(), random.byte(), random.byte()),
         8 => with_bytes("wext", &value.to_be_bytes()[..random.up_to(8)]),
+        9 => {
+            let code = random.integer() as u32;
+            format!("werr {} {choice} {} {code}", random.byte(), value as u32)
+        }
+        10 => format!("wrej {} {}", random.byte(), random.byte()),
+        11 => format!("wabt {} {} {}", random.below(2), random.byte(), random.byte()),
         _ => value_ask(random),
     };
     let (need, place) = (need(&ask), random.up_to(4));

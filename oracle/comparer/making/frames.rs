@@ -1,4 +1,5 @@
 // Frames: a header and its items, as they should be and damaged.
+use crate::making::errors::enumerated;
 use crate::making::items::{damage, list};
 use crate::making::lines::read;
 use crate::making::random::Random;
@@ -34,11 +35,17 @@ fn header(random: &mut Random) -> Vec<u8> {
         (random.below(8) * 16 + random.below(6)) as u8
     };
     let flags = random.of(&[0, 0, 1, 2, 4, 7, 8, 15]);
-    match random.below(5) {
+    match random.below(8) {
         0 => vec![flags, nibbles, random.byte(), choice],
         1 => vec![0x20 | flags, random.byte(), choice],
         2 => vec![0x30 | flags, random.byte(), choice],
         3 => vec![0x40 | flags, random.byte(), random.byte(), random.byte()],
+        4 => {
+            let start = [0x50 | flags, random.byte(), choice];
+            [&start[..], &enumerated(random), &enumerated(random)].concat()
+        }
+        5 => vec![0x60 | flags, random.byte(), random.byte()],
+        6 => vec![0x70 | flags, random.byte(), random.byte()],
         _ => vec![random.byte(), nibbles, random.byte(), choice],
     }
 }

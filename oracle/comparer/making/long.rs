@@ -36,14 +36,26 @@ fn readings(length: usize, lines: &mut Vec<String>) {
             lines.push(read("walk", 0, &buf));
         }
     }
+    let mut error = null.clone();
+    error[..7].copy_from_slice(&[0x50, 0x07, 0x0C, 0x91, 0x02, 0x91, 0x20]);
+    error[length - 4..].copy_from_slice(&[0x50, 0x07, 0x0C, 0x92]);
+    lines.push(read("header", 0, &error));
+    lines.push(read("header", length - 4, &error));
     lines.push(read("tag", usize::MAX, &null));
     lines.push(read(&format!("part {length}"), 0, &null));
     lines.push(read(&format!("rslice {length}"), 1, &null));
 }
 
 fn writings(length: usize, lines: &mut Vec<String>) {
-    for ask in ["wuns - 256", "wtag A 6 65535", "wopen 3", "wreq 7 4 1 12", "wval Date 2000 1 1 1"]
-    {
+    for ask in [
+        "wuns - 256",
+        "wtag A 6 65535",
+        "wopen 3",
+        "wreq 7 4 1 12",
+        "wval Date 2000 1 1 1",
+        "werr 7 34 2 32",
+        "wabt 1 7 4",
+    ] {
         lines.push(write(ask, length - 4, length));
         lines.push(write(ask, length, length));
         lines.push(write(ask, usize::MAX, length));

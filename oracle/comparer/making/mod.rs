@@ -4,6 +4,7 @@ mod blocks;
 mod contents;
 mod dates;
 mod drawn;
+mod errors;
 mod floats;
 mod frames;
 mod headers;
@@ -40,7 +41,8 @@ const FAMILIES: &[(u64, Family)] = &[
     (8, Family::Listed(floats::all)),
     (29, Family::Listed(nesting::all)),
     (75, Family::Listed(headers::all)),
-    (2, Family::Listed(long::all)),
+    (48, Family::Listed(errors::all)),
+    (3, Family::Listed(long::all)),
     (375, Family::Numbered { size: short::SIZE, nth: short::nth }),
     (38, Family::Numbered { size: alphabets::SIZE, nth: alphabets::nth }),
     (30, Family::Numbered { size: alphabets::BLOCKS_SIZE, nth: alphabets::nth_of_blocks }),
@@ -50,6 +52,7 @@ const FAMILIES: &[(u64, Family)] = &[
     (1, Family::Listed(segments::all_long)),
     (0, Family::Drawn(items::draw)),
     (0, Family::Drawn(frames::draw)),
+    (0, Family::Drawn(errors::draw)),
     (0, Family::Drawn(drawn::value)),
     (0, Family::Drawn(drawn::bytes)),
     (0, Family::Drawn(drawn::write)),
