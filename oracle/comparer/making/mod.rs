@@ -22,6 +22,7 @@ mod texts;
 mod values;
 
 use random::Random;
+use std::collections::HashSet;
 
 // A family of requests: a list, a numbered set, or draws without end.
 enum Family {
@@ -41,7 +42,7 @@ const FAMILIES: &[(u64, Family)] = &[
     (8, Family::Listed(floats::all)),
     (29, Family::Listed(nesting::all)),
     (75, Family::Listed(headers::all)),
-    (48, Family::Listed(errors::all)),
+    (40, Family::Listed(errors::all)),
     (3, Family::Listed(long::all)),
     (375, Family::Numbered { size: short::SIZE, nth: short::nth }),
     (38, Family::Numbered { size: alphabets::SIZE, nth: alphabets::nth }),
@@ -68,7 +69,7 @@ pub fn make(seed: u64, count: u64, mut give: impl FnMut(String)) {
         let mut random = Random::new(seed.wrapping_add((place as u64) << 32));
         left -= match family {
             Family::Listed(all) => {
-                let all = all();
+                let all = different(all());
                 spread(all.len() as u64, wanted, &mut random, |n| give(all[n as usize].clone()))
             }
             Family::Numbered { size, nth } => spread(*size, wanted, &mut random, |n| give(nth(n))),
@@ -80,6 +81,12 @@ pub fn make(seed: u64, count: u64, mut give: impl FnMut(String)) {
             }
         };
     }
+}
+
+// The lines without those that stand there before.
+fn different(lines: Vec<String>) -> Vec<String> {
+    let mut met = HashSet::new();
+    lines.into_iter().filter(|line| met.insert(line.clone())).collect()
 }
 
 // Takes so many different numbers below a size, in steps that meet each once, and answers how many.

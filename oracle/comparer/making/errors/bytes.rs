@@ -2,14 +2,9 @@
 use crate::making::errors::frame::{header, GOOD, START};
 use crate::making::lines::read;
 
-// What stands behind a tag's first byte: nothing, a byte, a content and a code, and lengths in two bytes and in four with these.
-const TAILS: [&[u8]; 5] = [
-    &[],
-    &[0x05],
-    &[0x02, 0x91, 0x20, 0x3F],
-    &[0xFE, 0x00, 0x01, 0x02, 0x91, 0x20],
-    &[0xFF, 0x00, 0x00, 0x00, 0x01, 0x02, 0x91, 0x20],
-];
+// What stands behind a tag's first byte: nothing, a byte, a content and a code, and a length in two bytes with these.
+const TAILS: [&[u8]; 4] =
+    [&[], &[0x05], &[0x02, 0x91, 0x20, 0x3F], &[0xFE, 0x00, 0x01, 0x02, 0x91, 0x20]];
 
 pub fn all() -> Vec<String> {
     let mut lines = Vec::new();
@@ -17,8 +12,7 @@ pub fn all() -> Vec<String> {
         lines.push(header(&[&[byte, 0x07, 0x0C], &GOOD, &GOOD, &[0x3F]]));
         lines.push(header(&[&[0x50, byte, 0x0C], &GOOD, &GOOD]));
         choice(byte, &mut lines);
-        lines.push(header(&[&[0x60, byte, 255 - byte]]));
-        lines.push(read("header", 1, &[0x50, 0x6F, 255 - byte, byte, 0x3F]));
+        lines.push(header(&[&[0x60 | byte % 16, byte, 255 - byte]]));
         lines.push(header(&[&[0x70 | byte % 16, byte, 255 - byte]]));
         lines.push(read("header", 1, &[0x71, 0x70 | byte / 16, 255 - byte, byte, 0x3F]));
         for tail in TAILS {

@@ -1,7 +1,7 @@
 // Choices, classes and codes with a fault each, so that the order of the refusals shows, and what the Rust reads behind a fault that it takes.
 use crate::making::errors::frame::header;
 
-const CHOICES: [u8; 3] = [33, 34, 35];
+const CHOICES: [u8; 2] = [33, 34];
 
 // Good ones, of two lengths; then 18, 7 for no bytes, for nine and in a tag of low bits 6; 4 for another number, another class, an opening, an opening and a closing of 9 in two bytes, and Null; 3 in the tag, in its length, in the content, and for nothing at all.
 const PIECES: [&[u8]; 16] = [

@@ -16,7 +16,7 @@ pub fn all() -> Vec<String> {
         for ask in ["werr {/} {} 2 32", "wrej {} {/}", "wabt 0 {} {/}", "wabt 1 {/} {}"] {
             let ask =
                 ask.replace("{/}", &(255 - byte).to_string()).replace("{}", &byte.to_string());
-            let few = if byte % 32 < 3 { 10 } else { 1 };
+            let few = if byte % 32 < 2 { 10 } else { 1 };
             lines.extend(in_rooms(&ask).into_iter().take(few));
         }
     }

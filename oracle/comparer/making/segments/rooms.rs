@@ -3,7 +3,7 @@ use crate::making::segments::frame::{lend, script, Frame, LAST, MORE};
 
 const CAPACITY: usize = 7;
 
-// Second parts behind bytes held, and first parts alone.
+// Second parts behind bytes held, first parts alone, and second parts where the whole buffer is lent from the first frame on.
 pub fn all() -> Vec<String> {
     let mut lines = Vec::new();
     for held in [0, 1, 2, 4] {
@@ -14,6 +14,10 @@ pub fn all() -> Vec<String> {
     for capacity in 0..=6 {
         for part in 0..=6 {
             lines.push(script(capacity, &[Frame::new(LAST, 0, &bytes(part)).take()]));
+        }
+        for part in 0..=3 {
+            let frames = [Frame::new(MORE, 0, &bytes(2)), Frame::new(LAST, 1, &bytes(part))];
+            lines.push(script(capacity, &frames.map(|frame| frame.take())));
         }
     }
     lines
