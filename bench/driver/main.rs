@@ -4,6 +4,9 @@ mod answer;
 mod archive;
 mod buffers;
 mod compare;
+#[path = "../../oracle/asking/error_frames.rs"]
+#[allow(dead_code)]
+mod error_frames;
 #[path = "../../oracle/asking/errors.rs"]
 #[allow(dead_code)]
 mod errors;

@@ -63,5 +63,8 @@ pub fn named(header: Header) -> Pdu<'static> {
             sequence_num: sequence,
             proposed_window_size: window,
         }),
+        Header::Error { .. } | Header::Reject { .. } | Header::Abort { .. } => {
+            panic!("the original writes no such header")
+        }
     }
 }

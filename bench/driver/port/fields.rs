@@ -38,11 +38,16 @@ pub fn value_fields(value: &Value) -> (u8, [u64; 4], &[u8]) {
 }
 
 pub fn header_fields(header: Header) -> (u8, [u64; 4]) {
-    let [kind, fields @ ..] = match header {
-        Header::Request { segments, size, id, choice } => [0, segments, size, id, choice],
-        Header::Simple { id, choice } => [2, id, choice, 0, 0],
-        Header::Complex { id, choice } => [3, id, choice, 0, 0],
-        Header::Segment { id, sequence, window } => [4, id, sequence, window, 0],
-    };
-    (kind, fields.map(u64::from))
+    let bytes = |fields: [u8; 4]| fields.map(u64::from);
+    match header {
+        Header::Request { segments, size, id, choice } => (0, bytes([segments, size, id, choice])),
+        Header::Simple { id, choice } => (2, bytes([id, choice, 0, 0])),
+        Header::Complex { id, choice } => (3, bytes([id, choice, 0, 0])),
+        Header::Segment { id, sequence, window } => (4, bytes([id, sequence, window, 0])),
+        Header::Error { id, choice, class, code } => {
+            (5, [id.into(), choice.into(), class.into(), code.into()])
+        }
+        Header::Reject { id, reason } => (6, bytes([id, reason, 0, 0])),
+        Header::Abort { server, id, reason } => (7, bytes([server.into(), id, reason, 0])),
+    }
 }
