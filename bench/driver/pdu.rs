@@ -63,8 +63,6 @@ pub fn named(header: Header) -> Pdu<'static> {
             sequence_num: sequence,
             proposed_window_size: window,
         }),
-        Header::Error { .. } | Header::Reject { .. } | Header::Abort { .. } => {
-            panic!("the original writes no such header")
-        }
+        _ => panic!("the original writes no error, reject or abort"),
     }
 }
