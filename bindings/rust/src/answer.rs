@@ -87,3 +87,13 @@ pub(crate) fn refusal(told: &Numbers) -> Refusal {
 pub(crate) fn part(buf: &[u8], place: u64, len: u64) -> Option<&[u8]> {
     buf.get(place as usize..)?.get(..len as usize)
 }
+
+/// The boolean of 0 or 1.
+#[inline]
+pub(crate) fn boolean(number: u64) -> Option<bool> {
+    match number {
+        0 => Some(false),
+        1 => Some(true),
+        _ => None,
+    }
+}

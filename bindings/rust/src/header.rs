@@ -1,5 +1,5 @@
 //! The headers of confirmed services, read and written.
-use crate::answer::{accepted, Numbers, Refusal};
+use crate::answer::{accepted, boolean, Numbers, Refusal};
 use crate::calls;
 use crate::reader::Reader;
 use crate::service_choice::ConfirmedServiceChoice;
@@ -36,13 +36,40 @@ pub struct SegmentAck {
     pub proposed_window_size: u8,
 }
 
-/// A header of any of the four types.
+/// The header of an error; class and code are numbers as they stand.
+#[derive(Debug, Clone, Copy, PartialEq, Eq)]
+pub struct ConfirmedBacnetError {
+    pub invoke_id: u8,
+    pub service_choice: ConfirmedServiceChoice,
+    pub error_class: u32,
+    pub error_code: u32,
+}
+
+/// A reject, which is all header; the reason is a number as it stands.
+#[derive(Debug, Clone, Copy, PartialEq, Eq)]
+pub struct Reject {
+    pub invoke_id: u8,
+    pub reason: u8,
+}
+
+/// An abort, which is all header, and whether a server sent it; the reason is a number as it stands.
+#[derive(Debug, Clone, Copy, PartialEq, Eq)]
+pub struct Abort {
+    pub server: bool,
+    pub invoke_id: u8,
+    pub reason: u8,
+}
+
+/// A header of any of the seven types.
 #[derive(Debug, Clone, Copy, PartialEq, Eq)]
 pub enum Header {
     ConfirmedRequest(ConfirmedRequest),
     SimpleAck(SimpleAck),
     ComplexAck(ComplexAck),
     SegmentAck(SegmentAck),
+    ConfirmedBacnetError(ConfirmedBacnetError),
+    Reject(Reject),
+    Abort(Abort),
 }
 
 impl Header {
@@ -60,6 +87,7 @@ impl Header {
     #[inline]
     pub(crate) fn told(told: &Numbers) -> Option<Self> {
         let field = |place: usize| u8::try_from(told[place]).ok();
+        let wide = |place: usize| u32::try_from(told[place]).ok();
         let choice = |place| ConfirmedServiceChoice::try_from(field(place)?).ok();
         Some(match told[2] {
             0 => Header::ConfirmedRequest(ConfirmedRequest {
@@ -77,6 +105,18 @@ impl Header {
                 sequence_num: field(4)?,
                 proposed_window_size: field(5)?,
             }),
+            5 => Header::ConfirmedBacnetError(ConfirmedBacnetError {
+                invoke_id: field(3)?,
+                service_choice: choice(4)?,
+                error_class: wide(5)?,
+                error_code: wide(6)?,
+            }),
+            6 => Header::Reject(Reject { invoke_id: field(3)?, reason: field(4)? }),
+            7 => Header::Abort(Abort {
+                server: boolean(told[3])?,
+                invoke_id: field(4)?,
+                reason: field(5)?,
+            }),
             _ => return None,
         })
     }
@@ -89,14 +129,17 @@ impl Header {
             Header::SimpleAck(header) => header.encode(writer),
             Header::ComplexAck(header) => header.encode(writer),
             Header::SegmentAck(header) => header.encode(writer),
+            Header::ConfirmedBacnetError(header) => header.encode(writer),
+            Header::Reject(header) => header.encode(writer),
+            Header::Abort(header) => header.encode(writer),
         }
     }
 }
 
 /// Writes the header of a PDU type and its fields in their order.
 #[inline]
-fn put(kind: u8, fields: [u8; 4], writer: &mut Writer) -> Result<(), Refusal> {
-    let told = calls::encode_header(kind, fields.map(u64::from), writer.buf, writer.index);
+fn put<F: Into<u64>>(kind: u8, fields: [F; 4], writer: &mut Writer) -> Result<(), Refusal> {
+    let told = calls::encode_header(kind, fields.map(F::into), writer.buf, writer.index);
     writer.written(told)
 }
 
@@ -130,5 +173,30 @@ impl SegmentAck {
     #[inline]
     pub fn encode(&self, writer: &mut Writer) -> Result<(), Refusal> {
         put(4, [self.invoke_id, self.sequence_num, self.proposed_window_size, 0], writer)
+    }
+}
+
+impl ConfirmedBacnetError {
+    /// Writes the header.
+    #[inline]
+    pub fn encode(&self, writer: &mut Writer) -> Result<(), Refusal> {
+        let (id, choice) = (u32::from(self.invoke_id), self.service_choice as u32);
+        put(5, [id, choice, self.error_class, self.error_code], writer)
+    }
+}
+
+impl Reject {
+    /// Writes the reject.
+    #[inline]
+    pub fn encode(&self, writer: &mut Writer) -> Result<(), Refusal> {
+        put(6, [self.invoke_id, self.reason, 0, 0], writer)
+    }
+}
+
+impl Abort {
+    /// Writes the abort.
+    #[inline]
+    pub fn encode(&self, writer: &mut Writer) -> Result<(), Refusal> {
+        put(7, [u8::from(self.server), self.invoke_id, self.reason, 0], writer)
     }
 }

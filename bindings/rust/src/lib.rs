@@ -37,7 +37,10 @@ pub use body::{
     get_optional_tagged_body, get_optional_tagged_body_within, get_tagged_body,
     get_tagged_body_for_tag, get_tagged_body_for_tag_within, get_tagged_body_within, Body,
 };
-pub use header::{ComplexAck, ConfirmedRequest, Header, SegmentAck, SimpleAck};
+pub use header::{
+    Abort, ComplexAck, ConfirmedBacnetError, ConfirmedRequest, Header, Reject, SegmentAck,
+    SimpleAck,
+};
 pub use integers::{
     decode_signed, decode_unsigned, encode_application_enumerated, encode_application_signed,
     encode_application_unsigned, encode_context_enumerated, encode_context_unsigned,

@@ -67,10 +67,14 @@ fn values() {
 
 #[test]
 fn headers() {
-    for kind in [1, 5].into_iter().chain(LARGE) {
+    for kind in [1, 8].into_iter().chain(LARGE) {
         assert_eq!(Header::told(&with(kind, 3, 0)), None);
     }
-    for (kind, place, number) in [(0, 3, 256), (0, 6, 34), (2, 4, 34), (3, 3, 256), (4, 5, 256)] {
+    // the kinds, and at which place a number is too large for its field
+    let acknowledged = [(0, 3, 256), (0, 6, 34), (2, 4, 34), (3, 3, 256), (4, 5, 256)];
+    let error = [(5, 3, 256), (5, 4, 34), (5, 5, 1 << 32), (5, 6, 1 << 32)];
+    let others = [(6, 3, 256), (6, 4, 256), (7, 3, 2), (7, 4, 256), (7, 5, 256)];
+    for (kind, place, number) in acknowledged.into_iter().chain(error).chain(others) {
         assert_eq!(Header::told(&with(kind, place, number)), None);
         assert!(Header::told(&with(kind, place, 0)).is_some());
     }

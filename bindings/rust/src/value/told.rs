@@ -1,6 +1,6 @@
 //! The values that the numbers of an answer tell.
 use super::{ApplicationDataValue, BitString, CharacterString, Date, ObjectId, OctetString, Time};
-use crate::answer::{part, Numbers};
+use crate::answer::{boolean, part, Numbers};
 
 impl<'a> ApplicationDataValue<'a> {
     /// The value that the numbers tell, with its text, or its octets or bits in the part of the buffer that was read.
@@ -24,16 +24,6 @@ impl<'a> ApplicationDataValue<'a> {
             12 => Self::SignedInt(told[3] as i64),
             _ => return None,
         })
-    }
-}
-
-/// The boolean of 0 or 1.
-#[inline]
-fn boolean(number: u64) -> Option<bool> {
-    match number {
-        0 => Some(false),
-        1 => Some(true),
-        _ => None,
     }
 }
 

@@ -41,7 +41,7 @@ fn one_to_eighteen() {
         number(get_tagged_body_within(0, &mut at(0), &[0x0E])),
         number(walk(&at(0), &[0x0F])),
         number(walk(&at(0), &[0x0E; 17])),
-        number(header(&[0x50])),
+        number(header(&[0x10])),
         number(value(&[0x95, 0x05, 0x01, 0, 0, 0, 0])),
     ];
     assert!(met.iter().copied().eq(1..=18), "{met:?}");
