@@ -27,11 +27,18 @@ fn every_kind() {
     both_ways(Header::ComplexAck(complex), &[0x30, 0x01, 0x0C]);
     let segment = SegmentAck { invoke_id: 5, sequence_num: 1, proposed_window_size: 7 };
     both_ways(Header::SegmentAck(segment), &[0x40, 0x05, 0x01, 0x07]);
+    // 02, K2; errors have tests of their own
+    let reject = Reject { invoke_id: 7, reason: 9 };
+    both_ways(Header::Reject(reject), &[0x60, 0x07, 0x09]);
+    let abort = Abort { server: true, invoke_id: 7, reason: 4 };
+    both_ways(Header::Abort(abort), &[0x71, 0x07, 0x04]);
     // each struct is written by itself too
     assert_eq!(write(4, |w| request(7, 4).encode(w)), Ok(vec![0x02, 0x74, 0x01, 0x0C]));
     assert_eq!(write(3, |w| simple.encode(w)), Ok(vec![0x20, 0x04, 0x0F]));
     assert_eq!(write(3, |w| complex.encode(w)), Ok(vec![0x30, 0x01, 0x0C]));
     assert_eq!(write(4, |w| segment.encode(w)), Ok(vec![0x40, 0x05, 0x01, 0x07]));
+    assert_eq!(write(3, |w| reject.encode(w)), Ok(vec![0x60, 0x07, 0x09]));
+    assert_eq!(write(3, |w| abort.encode(w)), Ok(vec![0x71, 0x07, 0x04]));
 }
 
 #[test]
@@ -65,6 +72,18 @@ fn every_choice() {
 }
 
 #[test]
+fn every_reason() {
+    // 02, K2: reasons are plain numbers, and none is refused
+    for (reason, invoke_id) in (0..=255).zip((0..=255).rev()) {
+        both_ways(Header::Reject(Reject { invoke_id, reason }), &[0x60, invoke_id, reason]);
+        for (server, control) in [(false, 0x70), (true, 0x71)] {
+            let abort = Header::Abort(Abort { server, invoke_id, reason });
+            both_ways(abort, &[control, invoke_id, reason]);
+        }
+    }
+}
+
+#[test]
 fn other_control_bytes() {
     // docs/DECISIONS.md: 17 before any later byte
     assert_eq!(read(&[0x38], Header::decode), Err(refused(17, 0x38)));
@@ -78,4 +97,12 @@ fn other_control_bytes() {
     let segment = SegmentAck { invoke_id: 1, sequence_num: 2, proposed_window_size: 3 };
     let flagged = [0x43, 0x01, 0x02, 0x03];
     assert_eq!(read(&flagged, Header::decode), Ok((Header::SegmentAck(segment), 4)));
+    // 02, K2: bit 0 of an abort says that a server sent it; what stands behind a reason is the body
+    let reject = Header::Reject(Reject { invoke_id: 7, reason: 9 });
+    for low in 0..=15 {
+        assert_eq!(read(&[0x60 + low, 7, 9, 0x3F], Header::decode), Ok((reject, 3)));
+        let abort = Abort { server: low % 2 == 1, invoke_id: 7, reason: 4 };
+        let sent = [0x70 + low, 7, 4, 0x3F];
+        assert_eq!(read(&sent, Header::decode), Ok((Header::Abort(abort), 3)));
+    }
 }

@@ -3,6 +3,8 @@
 //! to a second reading of 01; `core::str::from_utf8`. The given Rust has no test vectors. Each comment says which.
 mod bodies;
 mod bytes;
+mod errors;
+mod fields;
 mod headers;
 mod integers;
 mod optional;
