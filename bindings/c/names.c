@@ -1,4 +1,4 @@
-/* Tries every name of the header on answers in which numbers that could be taken for each other differ; ends with 1 where one is not the library's. The numbers are those of document 01's rules, and for segments of request K9 of 02. */
+/* Tries every name of the header on answers in which numbers that could be taken for each other differ; ends with 1 where one is not the library's. The numbers are those of document 01's rules, for segments of request K9 of 02, for errors, rejects and aborts of K2. */
 #include <inttypes.h>
 #include <stdio.h>
 #include <stdlib.h>
@@ -149,6 +149,18 @@ static void headers(void) {
     IS(THAOLISEM_SEGMENT_ID, 5);
     IS(THAOLISEM_SEGMENT_SEQUENCE, 1);
     IS(THAOLISEM_SEGMENT_WINDOW, 7);
+    header(BYTES(0x50, 8, 12, 0x91, 2, 0x91, 32), THAOLISEM_ERROR);
+    IS(THAOLISEM_ERROR_ID, 8);
+    IS(THAOLISEM_ERROR_CHOICE, 12);
+    IS(THAOLISEM_ERROR_CLASS, 2);
+    IS(THAOLISEM_ERROR_CODE, 32);
+    header(BYTES(0x60, 7, 9), THAOLISEM_REJECT);
+    IS(THAOLISEM_REJECT_ID, 7);
+    IS(THAOLISEM_REJECT_REASON, 9);
+    header(BYTES(0x71, 8, 4), THAOLISEM_ABORT);
+    IS(THAOLISEM_ABORT_SERVER, 1);
+    IS(THAOLISEM_ABORT_ID, 8);
+    IS(THAOLISEM_ABORT_REASON, 4);
 }
 
 /* Takes these bytes as a frame, into a buffer of nine bytes. */
@@ -222,8 +234,8 @@ static void refusals(void) {
     for (int i = 0; i < 17; i++) buf[i] = 0x3E;
     thaolisem_walk(buf, 17, 0, answer);
     refused(THAOLISEM_TOO_MANY_BLOCKS_OPEN, 16);
-    thaolisem_decode_header(BYTES(0x50), 0, answer);
-    refused(THAOLISEM_OTHER_PDU_TYPE, 0x50);
+    thaolisem_decode_header(BYTES(0x10), 0, answer);
+    refused(THAOLISEM_OTHER_PDU_TYPE, 0x10);
     thaolisem_decode_value(BYTES(0x95, 5, 1, 0, 0, 0, 0), 0, answer);
     refused(THAOLISEM_ENUMERATED_TOO_LARGE, 0);
 }

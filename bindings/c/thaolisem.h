@@ -44,7 +44,8 @@
      ObjectId    a type above 1,023; an instance above 4,194,303
      Bits        more than 7 unused bits; unused bits with no bytes
      Enumerated  as a value, one above 4,294,967,295
-     header      a kind that is not 0, 2, 3 or 4; segments or size of a request above 15; another
+     header      a kind that is not 0 or 2 to 7; segments or size of a request above 15; class or code
+                 of an error above 4,294,967,295; a server bit of an abort that is not 0 or 1; another
                  field above 255 (a service choice of 34 to 255 gives 11)
 
    A read tests 1, then 2, then what the bytes tell as they come; a write tests 1, 2, 12, then 11 or
@@ -109,7 +110,10 @@ enum {
     THAOLISEM_REQUEST = 0,     /* segments, size, invoke id, service choice */
     THAOLISEM_SIMPLE_ACK = 2,  /* invoke id, service choice */
     THAOLISEM_COMPLEX_ACK = 3, /* invoke id, service choice */
-    THAOLISEM_SEGMENT_ACK = 4  /* invoke id, sequence number, window size */
+    THAOLISEM_SEGMENT_ACK = 4, /* invoke id, sequence number, window size */
+    THAOLISEM_ERROR = 5,       /* invoke id, service choice, class, code */
+    THAOLISEM_REJECT = 6,      /* invoke id, reason */
+    THAOLISEM_ABORT = 7        /* server bit (1: a server sent it), invoke id, reason */
 };
 
 /* Whether an optional body is there. */
@@ -215,6 +219,15 @@ enum {
     THAOLISEM_SEGMENT_ID = 3,
     THAOLISEM_SEGMENT_SEQUENCE = 4,
     THAOLISEM_SEGMENT_WINDOW = 5,
+    THAOLISEM_ERROR_ID = 3,
+    THAOLISEM_ERROR_CHOICE = 4,
+    THAOLISEM_ERROR_CLASS = 5,
+    THAOLISEM_ERROR_CODE = 6,
+    THAOLISEM_REJECT_ID = 3,
+    THAOLISEM_REJECT_REASON = 4,
+    THAOLISEM_ABORT_SERVER = 3,
+    THAOLISEM_ABORT_ID = 4,
+    THAOLISEM_ABORT_REASON = 5,
 
     /* segments; the bytes held are THAOLISEM_NEXT, where the next part goes */
     THAOLISEM_OUTCOME = 2,
@@ -257,7 +270,7 @@ void thaolisem_walk(const uint8_t *buf, size_t len, size_t place, uint64_t answe
 /* The value under the application tag at a place; text, octets and bits as a part of the buffer. Refused 1, 2, 3, 7, 8, 9, 10, 18. */
 void thaolisem_decode_value(const uint8_t *buf, size_t len, size_t place, uint64_t answer[8]);
 
-/* The header whose control byte is at a place; its body begins at the next place. Refused 1, 2, 3, 11, 17. */
+/* The header whose control byte is at a place; its body begins at the next place. Refused 1, 2, 3, 11, 17; inside an error, whose class and code are enumerated values under application tag 9, also 4 for another tag, then 7, 3 and 18. */
 void thaolisem_decode_header(const uint8_t *buf, size_t len, size_t place, uint64_t answer[8]);
 
 /* Whether a whole text, of any length, is UTF-8. Refused 10. */
@@ -283,7 +296,7 @@ void thaolisem_encode_context_bool(uint8_t number, uint8_t value, uint8_t *buf, 
 /* A value under its application tag, by its case and fields; the lent slice is the content of text, octets and bits, and of no other case. Refused 10 too, and 1 also for a lent slice that is too long, whatever the case. */
 void thaolisem_encode_value(uint8_t value_case, uint64_t a, uint64_t b, uint64_t c, uint64_t d, const uint8_t *content, size_t content_len, uint8_t *buf, size_t len, size_t place, uint64_t answer[8]);
 
-/* A header alone, by its kind and fields; a field that the kind has not is not read. Refused 11 too. */
+/* A header alone, by its kind and fields, class and code of an error in the fewest bytes; a field that the kind has not is not read. Refused 11 too. */
 void thaolisem_encode_header(uint8_t kind, uint64_t a, uint64_t b, uint64_t c, uint64_t d, uint8_t *buf, size_t len, size_t place, uint64_t answer[8]);
 
 /* Answers in segments, frame by frame. */
