@@ -1,6 +1,7 @@
 // Headers of the original; the control byte is looked at here, as it leaves that to a file that is not given.
 use embedded_bacnet::application_protocol::confirmed::{
-    ComplexAck, ComplexAckService, ConfirmedRequest, ConfirmedRequestService, SegmentAck, SimpleAck,
+    ComplexAck, ComplexAckService, ConfirmedBacnetError, ConfirmedRequest, ConfirmedRequestService,
+    SegmentAck, SimpleAck,
 };
 use embedded_bacnet::common::error::Error;
 use embedded_bacnet::common::io::{Reader, Writer};
@@ -11,6 +12,7 @@ pub enum Pdu<'a> {
     Simple(SimpleAck),
     Complex(ComplexAck<'a>),
     Segment(SegmentAck),
+    Error(ConfirmedBacnetError),
 }
 
 pub type Decode = for<'a> fn(&mut Reader, &'a [u8]) -> Result<Pdu<'a>, Error>;
@@ -23,6 +25,7 @@ pub fn decode<'a>(reader: &mut Reader, buf: &'a [u8]) -> Result<Pdu<'a>, Error> 
         2 => Ok(Pdu::Simple(SimpleAck::decode(reader, buf)?)),
         3 => Ok(Pdu::Complex(ComplexAck::decode(reader, buf)?)),
         4 => Ok(Pdu::Segment(SegmentAck::decode(reader, buf)?)),
+        5 => Ok(Pdu::Error(ConfirmedBacnetError::decode(reader, buf)?)),
         _ => Err(Error::SegmentationNotSupported),
     }
 }
@@ -35,6 +38,7 @@ pub fn encode(pdu: &Pdu, writer: &mut Writer) {
         Pdu::Simple(ack) => ack.encode(writer),
         Pdu::Complex(ack) => ack.encode(writer),
         Pdu::Segment(ack) => ack.encode(writer),
+        Pdu::Error(_) => panic!("the original writes no error"),
     }
 }
 

@@ -1,4 +1,4 @@
-// The port's answer in the words of the program replay, for what the original cannot be asked: writes, segments, the walk, optional bodies, and object identifiers read.
+// The port's answer in the words of the program replay, for what the original cannot be asked: writes, segments, the walk, optional bodies, rejects, aborts and object identifiers read.
 use crate::answer::Answer;
 use protocol::{put_hex, Read, Request};
 
@@ -28,7 +28,17 @@ pub fn spoken(request: &Request, answer: &Answer) -> String {
             _ => format!("refused {refused} {a} {count}"),
         },
         Request::Read { what: Read::OptionalBody { .. }, .. } => optional_body(numbers),
+        Request::Read { what: Read::Header, .. } => header(numbers),
         _ => format!("ok ObjectId {a} {b} {next}"),
+    }
+}
+
+// A reject, an abort, or a refusal that carries an amount.
+fn header(numbers: [u64; 8]) -> String {
+    match numbers {
+        [0, next, 6, id, reason, 0, 0, 0] => format!("ok reject {id} {reason} {next}"),
+        [0, next, 7, server, id, reason, 0, 0] => format!("ok abort {server} {id} {reason} {next}"),
+        [refused, _, _, carried, ..] => format!("refused {refused} {carried}"),
     }
 }
 

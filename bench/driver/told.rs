@@ -75,11 +75,18 @@ pub fn header((answer, next): (Result<Pdu, Error>, usize)) -> Numbers {
     accepted(answer, |pdu| {
         let [kind, a, b, c, d] = match pdu {
             Pdu::Request(pdu) => {
-                [0, pdu.max_segments as u8 >> 4, pdu.max_adpu as u8, pdu.invoke_id, 12]
+                let [segments, size] = [pdu.max_segments as u8 >> 4, pdu.max_adpu as u8];
+                [0, segments, size, pdu.invoke_id, 12].map(u32::from)
             }
-            Pdu::Simple(ack) => [2, ack.invoke_id, ack.service_choice as u8, 0, 0],
-            Pdu::Complex(ack) => [3, ack.invoke_id, 12, 0, 0],
-            Pdu::Segment(ack) => [4, ack.invoke_id, ack.sequence_num, ack.proposed_window_size, 0],
+            Pdu::Simple(ack) => [2, ack.invoke_id, ack.service_choice as u8, 0, 0].map(u32::from),
+            Pdu::Complex(ack) => [3, ack.invoke_id, 12, 0, 0].map(u32::from),
+            Pdu::Segment(ack) => {
+                [4, ack.invoke_id, ack.sequence_num, ack.proposed_window_size, 0].map(u32::from)
+            }
+            Pdu::Error(error) => {
+                let [id, choice] = [error.invoke_id, error.service_choice as u8].map(u32::from);
+                [5, id, choice, error.error_class.number, error.error_code.number]
+            }
         }
         .map(u64::from);
         [0, next as u64, kind, a, b, c, d, 0].map(Some)

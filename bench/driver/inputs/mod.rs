@@ -43,7 +43,16 @@ fn input(operation: &'static str, name: &str, beside: Beside, line: String) -> I
 
 // Inputs on which both answer the same: names and lines.
 fn same(operation: &'static str, rows: &[(&str, &str)]) -> Vec<Input> {
-    rows.iter().map(|(name, line)| input(operation, name, Beside::Same, line.to_string())).collect()
+    listed(operation, Beside::Same, rows)
+}
+
+// Inputs that the original has no call for: names and lines.
+fn alone(operation: &'static str, rows: &[(&str, &str)]) -> Vec<Input> {
+    listed(operation, Beside::Alone, rows)
+}
+
+fn listed(operation: &'static str, beside: Beside, rows: &[(&str, &str)]) -> Vec<Input> {
+    rows.iter().map(|(name, line)| input(operation, name, beside, line.to_string())).collect()
 }
 
 // All inputs, operation by operation.

@@ -1,5 +1,5 @@
 // First frames of an answer in segments.
-use super::{input, Beside, Input};
+use super::{alone, input, Beside, Input};
 
 // The sizes of the part at which what a frame takes on top of copying is looked at.
 const SIZES: [usize; 7] = [0, 1, 16, 100, 480, 1_471, 65_530];
@@ -19,7 +19,6 @@ pub fn all() -> Vec<Input> {
         ("no-room", "segments 0 ; take 380100040c78"),
     ];
     let mut inputs: Vec<Input> = SIZES.into_iter().map(part).collect();
-    inputs
-        .extend(others.map(|(name, line)| input("segment", name, Beside::Alone, line.to_string())));
+    inputs.extend(alone("segment", &others));
     inputs
 }
