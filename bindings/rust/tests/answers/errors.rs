@@ -155,6 +155,9 @@ fn the_class_then_the_code() {
         }
     }
     // a class at fault is refused before the code is looked at
-    let both = [0x50, 7, 12, 0x90, 0x21];
-    assert_eq!(read(&both, Header::decode), Err(refused(7, 0)));
+    let above: &[u8] = &[0x95, 5, 1, 0, 0, 0, 0];
+    for (class, refusal) in [(&[0x90][..], refused(7, 0)), (above, refused(18, 0))] {
+        let both = [&FIXED[..], class, &[0x21]].concat();
+        assert_eq!(read(&both, Header::decode), Err(refusal));
+    }
 }
