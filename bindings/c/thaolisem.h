@@ -76,7 +76,7 @@ extern "C" {
 #endif
 
 /* The version of the calls that this header declares. */
-#define THAOLISEM_VERSION 2
+#define THAOLISEM_VERSION 3
 
 /* The version of the library's calls; where it is not THAOLISEM_VERSION, this header is of another library, and no other function is to be called. */
 uint64_t thaolisem_version(void);

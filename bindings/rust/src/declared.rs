@@ -2,7 +2,7 @@
 use crate::answer::Numbers;
 
 /// The version of the library that this crate speaks to.
-pub const THAOLISEM_VERSION: u64 = 2;
+pub const THAOLISEM_VERSION: u64 = 3;
 
 #[link(name = "thaolisem", kind = "static")]
 extern "C" {

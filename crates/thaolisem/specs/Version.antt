@@ -4,4 +4,4 @@ use Prim.Native.Nat.{ℕ}
 
 -- this version's number, as bindings/c/thaolisem.h and bindings/rust have it
 abbrev pub callsVersion : ℕ
-callsVersion = 2
+callsVersion = 3

@@ -7,5 +7,5 @@ ghost use Rattle.thaolisem.specs.Version.{callsVersion};
 pub extern "C" fn thaolisem_version() -> u64
     ensures { λ r. ⌜ r ≡ callsVersion ⌝ }
 {
-    2
+    3
 }
