@@ -122,12 +122,12 @@ fn request(segments: u8, size: u8, id: u8, service: u8, buf: &mut [u8], place: u
 }
 
 // Writes the header of an error: its fixed bytes, then class and code.
-fn error(id: u8, choice: u8, class: u32, code: u32, buf: &mut [u8], place: usize) -> Written
+fn error(id: u8, failed: u8, class: u32, code: u32, buf: &mut [u8], place: usize) -> Written
     requires { ⌜ (length (now buf) ≤ 65535) × (place ≤ length (now buf)) ⌝ }
-    ensures { λ r. ⌜ left (paperWritten r) (now (buf .exit)) ≡ headerTo (headerOf (ConfirmedBacnetError id choice class code)) (now (buf .entry)) place ⌝ }
+    ensures { λ r. ⌜ left (paperWritten r) (now (buf .exit)) ≡ headerTo (headerOf (ConfirmedBacnetError id failed class code)) (now (buf .entry)) place ⌝ }
 {
-    if AUDIT_LOG_QUERY < choice {
-        return Written::Refused(Refusal::ServiceChoiceTooLarge(choice));
+    if AUDIT_LOG_QUERY < failed {
+        return Written::Refused(Refusal::ServiceChoiceTooLarge(failed));
     }
     // A class or a code has four bytes at the most, so each has a tag of one byte.
     let len = 5 + numbers::unsigned_length(class as u64) + numbers::unsigned_length(code as u64);
@@ -136,7 +136,7 @@ fn error(id: u8, choice: u8, class: u32, code: u32, buf: &mut [u8], place: usize
     }
     buf[place] = ERROR * 16;
     buf[place + 1] = id;
-    buf[place + 2] = choice;
+    buf[place + 2] = failed;
     // Room was tested for both, so they are written.
     match values::encode_application_enumerated(class, buf, place + 3) {
         Written::To(next) => values::encode_application_enumerated(code, buf, next),
@@ -156,16 +156,16 @@ fn chosen(control: u8, id: u8, choice: u8, buf: &mut [u8], place: usize) -> Writ
 }
 
 // Writes three bytes.
-fn three(first: u8, second: u8, third: u8, buf: &mut [u8], place: usize) -> Written
+fn three(first: u8, middle: u8, last: u8, buf: &mut [u8], place: usize) -> Written
     requires { ⌜ (length (now buf) ≤ 65535) × (place ≤ length (now buf)) ⌝ }
-    ensures { λ r. ⌜ left (paperWritten r) (now (buf .exit)) ≡ writing 0 can (first ∷ second ∷ third ∷ []) (now (buf .entry)) place ⌝ }
+    ensures { λ r. ⌜ left (paperWritten r) (now (buf .exit)) ≡ writing 0 can (first ∷ middle ∷ last ∷ []) (now (buf .entry)) place ⌝ }
 {
     if buf.len() - place < 3 {
         return Written::Refused(Refusal::NoRoom(3));
     }
     buf[place] = first;
-    buf[place + 1] = second;
-    buf[place + 2] = third;
+    buf[place + 1] = middle;
+    buf[place + 2] = last;
     Written::To(place + 3)
 }
 

@@ -32,7 +32,7 @@ sub-if2 : tie.Need-sub-if2
 sub-if2 c = search needs
 
 returns-2 : tie.Need-returns-2
-returns-2 c = let a = c .before .before .before .before .before .args in let p = c .before .before .before .before .before .pre in error-no-room (a .id) (a .choice) (a .class) (a .code) (a .buf .now) (a .place) (p .0) (p .1) (omega (arith, c .before .before .before .if1 .left)) (omega arith) (omega arith) _ (omega (arith, c .before .unsigned-length2 .ensures .0, c .before .before .unsigned-length .ensures .0)) (omega arith)
+returns-2 c = let a = c .before .before .before .before .before .args in let p = c .before .before .before .before .before .pre in error-no-room (a .id) (a .failed) (a .class) (a .code) (a .buf .now) (a .place) (p .0) (p .1) (omega (arith, c .before .before .before .if1 .left)) (omega arith) (omega arith) _ (omega (arith, c .before .unsigned-length2 .ensures .0, c .before .before .unsigned-length .ensures .0)) (omega arith)
 
 mul-buf : tie.Need-mul-buf
 mul-buf c = search needs
@@ -68,16 +68,16 @@ enum-known-r : tie.Need-enum-known-r
 enum-known-r c = search needs
 
 same-length : tie.Need-same-length
-same-length c = let a = c .before .before .before .before .before .before .before .before .before .before .before .before .before .before .before .before .args in let p = c .before .before .before .before .before .before .before .before .before .before .before .before .before .before .before .before .pre in error-kept (a .id) (a .choice) (a .class) (a .code) (a .buf .now) (a .place) (p .0) (p .1) (omega (arith, c .before .before .before .before .before .before .before .before .before .before .before .before .before .before .if1 .left)) (omega arith) (omega arith) (omega (arith, c .before .before .before .before .before .before .before .before .before .before .before .if2 .left, c .before .before .before .before .before .before .before .before .before .before .before .before .unsigned-length2 .ensures .0, c .before .before .before .before .before .before .before .before .before .before .before .before .before .unsigned-length .ensures .0)) (c .before .before .before .before .before .next .given .0 .0) (c .before .before .before .before .before .before .before .before .before .encode-application-enumerated .last .1 .0) _ _ (ap (λ (r : Written). left (paperWritten r) (c .before .before .before .before .before .before .before .before .before .encode-application-enumerated .last .1 .0)) (sym (c .before .before .before .before .before .next .given .1)) ∙ c .before .before .before .before .before .before .before .before .before .encode-application-enumerated .ensures) (c .before .before .encode-application-enumerated2 .ensures)
+same-length c = let a = c .before .before .before .before .before .before .before .before .before .before .before .before .before .before .before .before .args in let p = c .before .before .before .before .before .before .before .before .before .before .before .before .before .before .before .before .pre in error-kept (a .id) (a .failed) (a .class) (a .code) (a .buf .now) (a .place) (p .0) (p .1) (omega (arith, c .before .before .before .before .before .before .before .before .before .before .before .before .before .before .if1 .left)) (omega arith) (omega arith) (omega (arith, c .before .before .before .before .before .before .before .before .before .before .before .if2 .left, c .before .before .before .before .before .before .before .before .before .before .before .before .unsigned-length2 .ensures .0, c .before .before .before .before .before .before .before .before .before .before .before .before .before .unsigned-length .ensures .0)) (c .before .before .before .before .before .next .given .0 .0) (c .before .before .before .before .before .before .before .before .before .encode-application-enumerated .last .1 .0) _ _ (ap (λ (r : Written). left (paperWritten r) (c .before .before .before .before .before .before .before .before .before .encode-application-enumerated .last .1 .0)) (sym (c .before .before .before .before .before .next .given .1)) ∙ c .before .before .before .before .before .before .before .before .before .encode-application-enumerated .ensures) (c .before .before .encode-application-enumerated2 .ensures)
 
 returns-3 : tie.Need-returns-3
-returns-3 c = let a = c .before .before .before .before .before .before .before .before .before .before .before .before .before .before .before .before .args in let p = c .before .before .before .before .before .before .before .before .before .before .before .before .before .before .before .before .pre in error-written (a .id) (a .choice) (a .class) (a .code) (a .buf .now) (a .place) (p .0) (p .1) (omega (arith, c .before .before .before .before .before .before .before .before .before .before .before .before .before .before .if1 .left)) (omega arith) (omega arith) (omega (arith, c .before .before .before .before .before .before .before .before .before .before .before .if2 .left, c .before .before .before .before .before .before .before .before .before .before .before .before .unsigned-length2 .ensures .0, c .before .before .before .before .before .before .before .before .before .before .before .before .before .unsigned-length .ensures .0)) (c .before .before .before .before .before .next .given .0 .0) (c .before .before .before .before .before .before .before .before .before .encode-application-enumerated .last .1 .0) _ _ (ap (λ (r : Written). left (paperWritten r) (c .before .before .before .before .before .before .before .before .before .encode-application-enumerated .last .1 .0)) (sym (c .before .before .before .before .before .next .given .1)) ∙ c .before .before .before .before .before .before .before .before .before .encode-application-enumerated .ensures) (c .before .before .encode-application-enumerated2 .ensures)
+returns-3 c = let a = c .before .before .before .before .before .before .before .before .before .before .before .before .before .before .before .before .args in let p = c .before .before .before .before .before .before .before .before .before .before .before .before .before .before .before .before .pre in error-written (a .id) (a .failed) (a .class) (a .code) (a .buf .now) (a .place) (p .0) (p .1) (omega (arith, c .before .before .before .before .before .before .before .before .before .before .before .before .before .before .if1 .left)) (omega arith) (omega arith) (omega (arith, c .before .before .before .before .before .before .before .before .before .before .before .if2 .left, c .before .before .before .before .before .before .before .before .before .before .before .before .unsigned-length2 .ensures .0, c .before .before .before .before .before .before .before .before .before .before .before .before .before .unsigned-length .ensures .0)) (c .before .before .before .before .before .next .given .0 .0) (c .before .before .before .before .before .before .before .before .before .encode-application-enumerated .last .1 .0) _ _ (ap (λ (r : Written). left (paperWritten r) (c .before .before .before .before .before .before .before .before .before .encode-application-enumerated .last .1 .0)) (sym (c .before .before .before .before .before .next .given .1)) ∙ c .before .before .before .before .before .before .before .before .before .encode-application-enumerated .ensures) (c .before .before .encode-application-enumerated2 .ensures)
 
 same-length-2 : tie.Need-same-length-2
-same-length-2 c = let a = c .before .before .before .before .before .before .before .before .before .before .before .before .args in let p = c .before .before .before .before .before .before .before .before .before .before .before .before .pre in absurd (class-not-refused (a .id) (a .choice) (a .class) (a .code) (a .buf .now) (a .place) (p .0) (p .1) (omega (arith, c .before .before .before .before .before .before .before .before .before .before .if1 .left)) (omega arith) (omega arith) (omega (arith, c .before .before .before .before .before .before .before .if2 .left, c .before .before .before .before .before .before .before .before .unsigned-length2 .ensures .0, c .before .before .before .before .before .before .before .before .before .unsigned-length .ensures .0)) _ _ _ (ap (λ (r : Written). left (paperWritten r) (c .before .before .before .before .before .encode-application-enumerated .last .1 .0)) (sym (c .before .r .given .1)) ∙ c .before .before .before .before .before .encode-application-enumerated .ensures))
+same-length-2 c = let a = c .before .before .before .before .before .before .before .before .before .before .before .before .args in let p = c .before .before .before .before .before .before .before .before .before .before .before .before .pre in absurd (class-not-refused (a .id) (a .failed) (a .class) (a .code) (a .buf .now) (a .place) (p .0) (p .1) (omega (arith, c .before .before .before .before .before .before .before .before .before .before .if1 .left)) (omega arith) (omega arith) (omega (arith, c .before .before .before .before .before .before .before .if2 .left, c .before .before .before .before .before .before .before .before .unsigned-length2 .ensures .0, c .before .before .before .before .before .before .before .before .before .unsigned-length .ensures .0)) _ _ _ (ap (λ (r : Written). left (paperWritten r) (c .before .before .before .before .before .encode-application-enumerated .last .1 .0)) (sym (c .before .r .given .1)) ∙ c .before .before .before .before .before .encode-application-enumerated .ensures))
 
 returns-4 : tie.Need-returns-4
-returns-4 c = let a = c .before .before .before .before .before .before .before .before .before .before .before .before .args in let p = c .before .before .before .before .before .before .before .before .before .before .before .before .pre in absurd (class-not-refused (a .id) (a .choice) (a .class) (a .code) (a .buf .now) (a .place) (p .0) (p .1) (omega (arith, c .before .before .before .before .before .before .before .before .before .before .if1 .left)) (omega arith) (omega arith) (omega (arith, c .before .before .before .before .before .before .before .if2 .left, c .before .before .before .before .before .before .before .before .unsigned-length2 .ensures .0, c .before .before .before .before .before .before .before .before .before .unsigned-length .ensures .0)) _ _ _ (ap (λ (r : Written). left (paperWritten r) (c .before .before .before .before .before .encode-application-enumerated .last .1 .0)) (sym (c .before .r .given .1)) ∙ c .before .before .before .before .before .encode-application-enumerated .ensures))
+returns-4 c = let a = c .before .before .before .before .before .before .before .before .before .before .before .before .args in let p = c .before .before .before .before .before .before .before .before .before .before .before .before .pre in absurd (class-not-refused (a .id) (a .failed) (a .class) (a .code) (a .buf .now) (a .place) (p .0) (p .1) (omega (arith, c .before .before .before .before .before .before .before .before .before .before .if1 .left)) (omega arith) (omega arith) (omega (arith, c .before .before .before .before .before .before .before .if2 .left, c .before .before .before .before .before .before .before .before .unsigned-length2 .ensures .0, c .before .before .before .before .before .before .before .before .before .unsigned-length .ensures .0)) _ _ _ (ap (λ (r : Written). left (paperWritten r) (c .before .before .before .before .before .encode-application-enumerated .last .1 .0)) (sym (c .before .r .given .1)) ∙ c .before .before .before .before .before .encode-application-enumerated .ensures))
 
 pub error-spec : {M : Type 1} → statement M
 error-spec =

@@ -12,7 +12,7 @@ sub-if1 : tie.Need-sub-if1
 sub-if1 c = search needs
 
 returns : tie.Need-returns
-returns c = let a = c .before .args in let p = c .before .pre in no-room (a .first ∷ a .second ∷ a .third ∷ []) (a .buf .now) (a .place) (p .0) (p .1) (omega arith)
+returns c = let a = c .before .args in let p = c .before .pre in no-room (a .first ∷ a .middle ∷ a .last ∷ []) (a .buf .now) (a .place) (p .0) (p .1) (omega arith)
 
 slice-write-buf : tie.Need-slice-write-buf
 slice-write-buf c = search needs
@@ -36,7 +36,7 @@ same-length : tie.Need-same-length
 same-length c = search needs
 
 returns-2 : tie.Need-returns-2
-returns-2 c = let a = c .before .args in let p = c .before .pre in stored (a .first ∷ a .second ∷ a .third ∷ []) (a .buf .now) (a .place) (p .0) (p .1) (omega arith)
+returns-2 c = let a = c .before .args in let p = c .before .pre in stored (a .first ∷ a .middle ∷ a .last ∷ []) (a .buf .now) (a .place) (p .0) (p .1) (omega arith)
 
 pub three-spec : {M : Type 1} → statement M
 three-spec = tie.close (tie.spec sub-if1 returns slice-write-buf add-buf slice-write-buf-2 add-buf-2 slice-write-buf-3 add-t6 same-length returns-2)
