@@ -208,9 +208,9 @@ fn id_and_reason(buf: &[u8], place: usize) -> PairRead
     match values::read_byte(buf, place) {
         ByteRead::Byte(invoke_id, after) => match values::read_byte(buf, after) {
             ByteRead::Byte(reason, next) => PairRead::Pair(invoke_id, reason, next),
-            ByteRead::Refused(r) => PairRead::Refused(r),
+            ByteRead::Refused(refusal) => PairRead::Refused(refusal),
         },
-        ByteRead::Refused(r) => PairRead::Refused(r),
+        ByteRead::Refused(refusal) => PairRead::Refused(refusal),
     }
 }
 

@@ -108,17 +108,17 @@ fn reject_named(id: u64, reason: u64) -> HeaderNamed
 }
 
 // The abort of a server or a client, of an invoke id and a reason.
-fn abort_named(server: u64, id: u64, reason: u64) -> HeaderNamed
-    ensures { λ r. ⌜ paperHeaderNamed r ≡ abortNamed server id reason ⌝ }
+fn abort_named(server: u64, id: u64, cause: u64) -> HeaderNamed
+    ensures { λ r. ⌜ paperHeaderNamed r ≡ abortNamed server id cause ⌝ }
 {
     if 1 < server {
         return HeaderNamed::Nothing;
     }
-    if fit_bytes(id, reason, 0, 0) {
+    if fit_bytes(id, cause, 0, 0) {
         return HeaderNamed::Header(Header::Abort {
             server: server == 1,
             invoke_id: id as u8,
-            reason: reason as u8,
+            reason: cause as u8,
         });
     }
     HeaderNamed::Nothing

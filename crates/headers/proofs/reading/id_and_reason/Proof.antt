@@ -28,10 +28,10 @@ returns : tie.Need-returns
 returns c = simp (sym (c .before .before .before .before .before .before .before .read-byte .ensures) ∙ ap paperByte (c .before .before .before .before .before .invoke-id .given .1), sym (c .before .before .before .read-byte2 .ensures) ∙ ap paperByte (c .before .reason .given .1))
 
 returns-2 : tie.Need-returns-2
-returns-2 c = simp (sym (c .before .before .before .before .before .before .before .read-byte .ensures) ∙ ap paperByte (c .before .before .before .before .before .invoke-id .given .1), sym (c .before .before .before .read-byte2 .ensures) ∙ ap paperByte (c .before .r .given .1))
+returns-2 c = simp (sym (c .before .before .before .before .before .before .before .read-byte .ensures) ∙ ap paperByte (c .before .before .before .before .before .invoke-id .given .1), sym (c .before .before .before .read-byte2 .ensures) ∙ ap paperByte (c .before .refusal .given .1))
 
 returns-3 : tie.Need-returns-3
-returns-3 c = simp (sym (c .before .before .before .read-byte .ensures) ∙ ap paperByte (c .before .r2 .given .1))
+returns-3 c = simp (sym (c .before .before .before .read-byte .ensures) ∙ ap paperByte (c .before .refusal2 .given .1))
 
 pub id-and-reason-spec : {M : Type 1} → statement M
 id-and-reason-spec = tie.close (tie.spec read-byte-requires enum-known-invoke-id read-byte-requires-2 enum-known-reason enum-known-r enum-known-r-2 returns returns-2 returns-3)

@@ -12,11 +12,11 @@ use borrow.Author.Needs.{needs}
 use Rattle.thaolisem.proofs.kind.abort_named.Statement.{statement}
 use Rattle.thaolisem.proofs.kind.abort_named.Tie as tie
 
-known : (c : tie.Then2) → fitBytes (c .before .before .before .args .id) (c .before .before .before .args .reason) 0 0 ≡ true
+known : (c : tie.Then2) → fitBytes (c .before .before .before .args .id) (c .before .before .before .args .cause) 0 0 ≡ true
 known c = sym (c .before .fit-bytes .ensures) ∙ c .if2 .taken
 
-fit : (c : tie.Then2) → Fits w8 (c .before .before .before .args .id) × Fits w8 (c .before .before .before .args .reason) × Fits w8 0 × Fits w8 0
-fit c = all-fit (c .before .before .before .args .id) (c .before .before .before .args .reason) 0 0 (known c)
+fit : (c : tie.Then2) → Fits w8 (c .before .before .before .args .id) × Fits w8 (c .before .before .before .args .cause) × Fits w8 0 × Fits w8 0
+fit c = all-fit (c .before .before .before .args .id) (c .before .before .before .args .cause) 0 0 (known c)
 
 returns : tie.Need-returns
 unfolding abortNamed
