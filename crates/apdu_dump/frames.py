@@ -1,8 +1,9 @@
 #!/usr/bin/env python3
 """Writes stdin and stdout of this crate: lines of hexadecimal, and the text that document 01 asks for.
 
-It is the second source of the expected text: a reading of document 01 ("Tags", "Bodies", "Headers", "The program") and of
-document 02 (K1), not of the program's code. The first twelve lines of stdout are 01's own sample, which this script asserts.
+It is the second source of the expected text: a reading of document 01 ("Tags", "Integers", "Bodies", "Headers", "The program")
+and of document 02 (K1 and K2), not of the program's code. The first twelve lines of stdout are 01's own sample, which this
+script asserts.
 """
 import os
 
@@ -93,17 +94,47 @@ def choice(frame, place):
     return found
 
 
+def enumerated(frame, place):
+    """The number of the enumerated at a place, and the place after it; 4 for another tag, then 7, 3 and 18."""
+    kind, number, length, place = read_tag(frame, place)
+    if (kind, number) != ("application", 9):
+        raise Refused(4)
+    if not 1 <= length <= 8:
+        raise Refused(7)
+    after = place + length
+    if after > len(frame):
+        raise Refused(3)
+    found = int.from_bytes(frame[place:after], "big")
+    if found > 4294967295:
+        raise Refused(18)
+    return found, after
+
+
+def error(frame):
+    """The words of an error's header line: its class is read wholly before its code."""
+    words = ["error", byte(frame, 1), choice(frame, 2)]
+    of_class, place = enumerated(frame, 3)
+    code, _ = enumerated(frame, place)
+    return words + [of_class, code]
+
+
 def header(frame):
     """The words of the header line, and the place where the tags begin, or None where there are none."""
     control = byte(frame, 0)
     kind = control >> 4
-    if kind not in (0, 2, 3, 4) or (kind in (0, 3) and control & 8):
+    if kind == 1 or kind > 7 or (kind in (0, 3) and control & 8):
         raise Refused(17)
     if kind == 0:
         sizes = byte(frame, 1)
         return ["request", sizes >> 4, sizes & 15, byte(frame, 2), choice(frame, 3)], 4
     if kind == 4:
         return ["segment", byte(frame, 1), byte(frame, 2), byte(frame, 3)], None
+    if kind == 5:
+        return error(frame), None
+    if kind == 6:
+        return ["reject", byte(frame, 1), byte(frame, 2)], None
+    if kind == 7:
+        return ["abort", control & 1, byte(frame, 1), byte(frame, 2)], None
     return ["simple" if kind == 2 else "complex", byte(frame, 1), choice(frame, 2)], 3 if kind == 3 else None
 
 
@@ -123,19 +154,76 @@ def text(name, line):
     return "".join(row + "\n" for row in out)
 
 
+def refused_errors():
+    """Lines of errors that are refused: by the choice, and by class or code."""
+    head, good = "50070C", "9102"
+    # 11 right behind the choice, before anything of the class
+    yield from ("500721", "500722", "5007FF", "50072291029120", "50072295", "5007222102", "50072290", "5F00FF95050100000000")
+    # 3 in the tag, also in another tag than an enumerated's, in its length, and in its content
+    for cut in ("", "95", "95FE", "95FE00", "95FF", "95FF000000", "F8", "FE", "FF", "9D", "65FE00", "FD09", "91", "9201", "94FFFFFF",
+                "9505" + "00" * 4, "9508", "9508" + "FF" * 7, "95FE0001", "95FF0000000201"):
+        yield head + cut
+        yield head + good + cut
+    # 4: another application number, context class, openings and closings in either form, Null, reserved; before 7 and 3
+    other = ("2102", "8102", "A102", "9902", "F90902", "9E", "9F", "0E", "0F", "FE09", "FF09", "FE0F", "FF0F", "FEFF", "00", "10", "11",
+             "D102", "E102", "F102", "F6", "F7", "20", "24", "2509", "98", "990102", "C400000000", "4442900000")
+    # 7: no content and nine bytes or more, in every form of the length, whole or cut
+    long = ("90", "96", "97", "9500", "95FE0000", "95FF00000000", "9509", "9509" + "00" * 9, "95FD", "95FE0009", "95FE0101", "95FF00000009",
+            "95FF00000101", "95FF00010001", "95FFFFFFFFFF")
+    # 18: the first number above 32 bits, in five bytes to eight, and the greatest
+    great = ("95050100000000", "9506000100000000", "950700000100000000", "95080000000100000000", "95088000000000000001", "9508" + "FF" * 8)
+    for fault in other + long + great:
+        yield head + fault
+        yield head + fault + "9120"
+        yield head + good + fault
+        yield head + good + fault + "3F"
+    # a class at fault is refused before a code at fault
+    for first in ("2102", "90", "95050100000000"):
+        for second in ("95", "3E", "9509", "92", "9508" + "FF" * 8):
+            yield head + first + second
+    # the form that begins with an opening, for the choices that the standard gives it, and for another
+    for service in (8, 9, 10, 12, 16, 18):
+        yield f"5007{service:02X}0E910291200F"
+
+
+def whole_errors():
+    """Lines of errors that are read, and of what stands behind errors, rejects and aborts."""
+    head, good = "50070C", "9102"
+    # classes and codes: each length of the content, the ends of 32 bits, numbers and lengths in more bytes than they need
+    for number in ("9100", "91FF", "920100", "92FFFF", "93010000", "93FFFFFF", "9480000000", "94FFFFFFFF", "920002", "93000002", "9400000002",
+                   "95050000000002", "9506000000000002", "950700000000000002", "95080000000000000002", "950500FFFFFFFF", "950800000000FFFFFFFF",
+                   "950102", "9504FFFFFFFF", "95FE000102", "95FF0000000102", "95FE0008" + "00" * 8, "95FF0000000800000000FFFFFFFF"):
+        yield head + number + "9120"
+        yield head + good + number
+        yield head + number * 2
+    # what stands behind a header is not walked: closings, openings, tags cut and past the end, seventeen blocks, as many digits as a line has
+    for whole in (head + good + "9120", "600709", "710704"):
+        for behind in ("3F", "3E", "FF0F", "65", "65FFFFFFFFFF", "24FF", "9120", "3E" * 17, "00" * (1476 - len(whole) // 2)):
+            yield whole + behind
+        yield whole + "AB" * (1477 - len(whole) // 2)
+        yield whole + "0"
+
+
 def lines():
     """The input's lines: every kind of header, every refusal that the program can meet, and the edges of each."""
     yield from SAMPLE
     # every kind of header, short by a byte, whole, and with bytes behind it
-    for whole in ("0075010C", "20010F", "30010C", "40010203", "0275FF21", "2FFF21", "37FF21", "4FFFFFFF"):
+    for whole in ("0075010C", "20010F", "30010C", "40010203", "0275FF21", "2FFF21", "37FF21", "4FFFFFFF",
+                  "50070C91029120", "600709", "700704", "710704", "58FF2194FFFFFFFF94FFFFFFFF", "5F000091009100", "68FFFF", "6F0000",
+                  "78FFFF", "790000", "72FF00", "7E00FF", "7FFFFF"):
         for digits in range(0, len(whole) + 1, 2):
             yield whole[:digits]
         yield whole + "2107"
-    # 11 at and above the last choice; 17 by type and by the segment bit, before a 3
-    yield from ("00050121", "00050122", "2001FF", "30FF22", "10", "50", "F0", "08", "38", "0F", "28010C", "48010203")
+    # 11 at and above the last choice; 17 by the segment bit, before a 3
+    yield from ("00050121", "00050122", "2001FF", "30FF22", "08", "38", "0F", "28010C", "48010203")
+    # 17 by type, before a 3 and before what the bytes would be to another type
+    for kind in [1] + list(range(8, 16)):
+        yield from (f"{kind:X}0", f"{kind:X}F", f"{kind:X}0070C91029120", f"{kind:X}80722")
+    yield from refused_errors()
+    yield from whole_errors()
     # 19: other characters, odd numbers of digits, signs beside the digits in ASCII
     yield from ("0", "000", "zz", "0x00", "00 05", "0005010C\r", "/0", ":0", "@0", "G0", "`0", "g0", "0\x00", "\xff0", "0005010c2", "-1", "é")
-    yield from ("30010c0c0080000519553e44429000003f", "30010C0c0080000519553E44429000003f")
+    yield from ("30010c0c0080000519553e44429000003f", "30010C0c0080000519553E44429000003f", "5f0a0b94fFffFFFf91aB", "6A0bfE", "7b0aEf")
     # tags: each class, the long number, each length of the value, Boolean, low bits 6 and 7 where they open nothing
     head = "30010C"
     for tags in ("00", "10", "11", "14", "15FF", "21FF", "2207", "0C", "1A0102", "F80F", "F9FF07", "FE0F", "FF0F", "06", "07", "F6", "17",
