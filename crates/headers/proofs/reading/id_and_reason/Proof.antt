@@ -18,11 +18,11 @@ read-byte-requires-2 c κs = search needs
 enum-known-reason : tie.Need-enum-known-reason
 enum-known-reason c = search needs
 
-enum-known-r : tie.Need-enum-known-r
-enum-known-r c = search needs
+enum-known-refusal : tie.Need-enum-known-refusal
+enum-known-refusal c = search needs
 
-enum-known-r-2 : tie.Need-enum-known-r-2
-enum-known-r-2 c = search needs
+enum-known-refusal-2 : tie.Need-enum-known-refusal-2
+enum-known-refusal-2 c = search needs
 
 returns : tie.Need-returns
 returns c = simp (sym (c .before .before .before .before .before .before .before .read-byte .ensures) ∙ ap paperByte (c .before .before .before .before .before .invoke-id .given .1), sym (c .before .before .before .read-byte2 .ensures) ∙ ap paperByte (c .before .reason .given .1))
@@ -34,4 +34,4 @@ returns-3 : tie.Need-returns-3
 returns-3 c = simp (sym (c .before .before .before .read-byte .ensures) ∙ ap paperByte (c .before .refusal2 .given .1))
 
 pub id-and-reason-spec : {M : Type 1} → statement M
-id-and-reason-spec = tie.close (tie.spec read-byte-requires enum-known-invoke-id read-byte-requires-2 enum-known-reason enum-known-r enum-known-r-2 returns returns-2 returns-3)
+id-and-reason-spec = tie.close (tie.spec read-byte-requires enum-known-invoke-id read-byte-requires-2 enum-known-reason enum-known-refusal enum-known-refusal-2 returns returns-2 returns-3)
