@@ -12,7 +12,7 @@ use borrow.Author.Tests.{lt-ltb, le-ltb, ltb-true, ltb-false}
 use Rattle.types.specs.Choice.{if}
 use Rattle.types.specs.Tag.{Number, application, Tag, tag}
 use Rattle.types.specs.Refusal.{Carried, amount, tagFound}
-use Rattle.types.specs.Answer.{Answer, accepted, refused, then}
+use Rattle.types.specs.Answer.{Answer, accepted, refused, then, Outcome, passed, stopped}
 use Rattle.types.proofs.Choices.{either}
 use Rattle.types.proofs.Class.{same-exactly}
 use Rattle.numbers.specs.Integer.{unsignedValue, unsignedBytes}
@@ -21,7 +21,7 @@ use Rattle.numbers.proofs.Found.{IntegerFound, unsigned-found, behind}
 use Rattle.numbers.proofs.Shortest.{unsigned-length}
 use Rattle.numbers.proofs.Least.{length-between}
 use Rattle.tags.specs.Header.{IsTag}
-use Rattle.tags.specs.Reading.{tagFrom, sameNumber, expectedFrom}
+use Rattle.tags.specs.Reading.{tagFrom, sameNumber, expectedFrom, expectedNumber}
 use Rattle.tags.proofs.Exactly.{TagFound, tag-found, tag-read, tag-length}
 use Rattle.tags.proofs.Range.{OrRunsOut, tag-or-run-out}
 use Rattle.tags.proofs.Refusals.{too-long, past-end}
@@ -45,6 +45,19 @@ module _ (len : ℕ) (xs : List ℕ) (place : ℕ) (small : length xs ≤ 65535)
       go false e true f c g = simp (le-ltb 65535 (length xs) small, le-ltb (length xs) place inside, e, f) (other (inr (ltb-true 8 len f)))
       go false e false f true g = simp (le-ltb 65535 (length xs) small, le-ltb (length xs) place inside, e, f, g) (short (omega (arith, ltb-false len 1 e)) (ltb-false 8 len f) (ltb-true (length xs) (place + len) g))
       go false e false f false g = simp (le-ltb 65535 (length xs) small, le-ltb (length xs) place inside, e, f, g) (found _ _ (simp (le-ltb 65535 (length xs) small, le-ltb (length xs) place inside, e, f, g)))
+
+-- a tag that was read is the one expected, or is refused, as the check of its number says
+abbrev pub ifPassed : Tag → ℕ → Outcome → Answer Tag
+ifPassed t next passed = accepted t next
+ifPassed t next (stopped n c) = refused n c
+
+pub by-check : (expected : Number) (xs : List ℕ) (place : ℕ) (t : Tag) (next : ℕ) (o : Outcome) → tagFrom xs place ≡ accepted t next → o ≡ expectedNumber expected t → expectedFrom expected xs place ≡ ifPassed t next o
+unfolding expectedFrom expectedNumber
+by-check expected xs place t next o e f = simp e (go (sameNumber (t .number) expected)) ∙ ap (ifPassed t next) (sym f)
+  where
+    go : (b : Bool) → if b (accepted t next) (refused 4 (tagFound t)) ≡ ifPassed t next (if b passed (stopped 4 (tagFound t)))
+    go true = refl
+    go false = refl
 
 -- what a tag of application class and number 9 is to be followed by
 module _ (xs : List ℕ) (place : ℕ) where

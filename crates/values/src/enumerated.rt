@@ -9,6 +9,7 @@ use crate::value_read::ValueRead;
 use numbers::UnsignedRead;
 use tags::TagRead;
 use types::ApplicationTagNumber;
+use types::Outcome;
 use types::Refusal;
 use types::TagNumber;
 
@@ -23,8 +24,11 @@ pub fn decode_application_enumerated(buf: &[u8], place: usize) -> EnumeratedRead
     ensures { λ r. ⌜ paperEnumerated r ≡ enumeratedFrom (now (buf .entry)) place ⌝ }
 {
     let own = TagNumber::Application(ApplicationTagNumber::Enumerated);
-    match tags::decode_expected(own, buf, place) {
-        TagRead::Read(tag, next) => enumerated_of(tag.value, buf, next),
+    match tags::decode(buf, place) {
+        TagRead::Read(tag, next) => match tags::expect_number(tag, own) {
+            Outcome::Passed => enumerated_of(tag.value, buf, next),
+            Outcome::Refused(r) => EnumeratedRead::Refused(r),
+        },
         TagRead::Refused(r) => EnumeratedRead::Refused(r),
     }
 }
