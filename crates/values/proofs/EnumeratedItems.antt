@@ -16,8 +16,8 @@ use Rattle.types.specs.Answer.{Answer, accepted, refused, then, Outcome, passed
 use Rattle.types.proofs.Choices.{either}
 use Rattle.types.proofs.Class.{same-exactly}
 use Rattle.numbers.specs.Integer.{unsignedValue, unsignedBytes}
-use Rattle.numbers.specs.Reading.{partAt, bytesIn, sliceFrom, contentFrom, unsignedFrom}
-use Rattle.numbers.proofs.Found.{IntegerFound, unsigned-found, behind}
+use Rattle.numbers.specs.Reading.{sliceFrom, contentFrom, unsignedFrom}
+use Rattle.numbers.proofs.Found.{unsigned-found, behind}
 use Rattle.numbers.proofs.Shortest.{unsigned-length}
 use Rattle.numbers.proofs.Least.{length-between}
 use Rattle.tags.specs.Header.{IsTag}

@@ -9,11 +9,10 @@ use lib.ListN.{length, length-append}
 use borrow.Author.Tests.{lt-ltb}
 use Rattle.types.specs.Tag.{application, tag}
 use Rattle.types.specs.Answer.{accepted}
-use Rattle.numbers.specs.Integer.{unsignedValue, unsignedLength, unsignedBytes, lowBytes, Bytes}
+use Rattle.numbers.specs.Integer.{unsignedLength, unsignedBytes, lowBytes, Bytes}
 use Rattle.numbers.proofs.Low.{low-bytes-are-bytes, low-bytes-of-value}
 use Rattle.numbers.proofs.Least.{length-between, length-least}
 use Rattle.numbers.proofs.Shortest.{unsigned-length, unsigned-shortest}
-use Rattle.tags.specs.Header.{IsTag}
 use Rattle.tags.specs.Writing.{tagBytes}
 use Rattle.tags.proofs.Exactly.{tag-length}
 use Rattle.tags.proofs.Form.{written-form}

@@ -1,6 +1,5 @@
 -- `headers::put` meets its contract: in each arm the header's kind is known, and its bytes are written by their number.
 -- Assumes nothing.
-use mathlib.Core.Path.{sym}
 use Rattle.headers.specs.Writing.{choiceWritable, headerBytes, headerTo}
 use Rattle.headers.proofs.Writable.{both-can}
 use borrow.Author.Needs.{needs}
