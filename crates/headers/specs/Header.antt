@@ -58,7 +58,7 @@ pub record HeaderRow : Type 0 where
 abbrev pub headerRow : ℕ → Bool → (ℕ → List FieldValue) → List Field → ℕ → List ℕ → Bool → HeaderRow
 headerRow t s h f n word walks = record { pduType = t; segmentable = s; held = h; follow = f; enumerations = n; word = word; walks = walks }
 
--- what a control byte carries: an abort's bit 0 says whether a server sent it (20.1.9.1.2), and no other kind's carries anything that is kept
+-- what a control byte carries: an abort's bit 0 says whether a server sent it (20.1.9), and no other kind's carries anything that is kept
 abbrev pub holdsNothing : ℕ → List FieldValue
 holdsNothing control = []
 
