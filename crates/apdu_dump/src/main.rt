@@ -1,4 +1,6 @@
 // apdu-dump: prints the header, the tags and the outcome of each frame, a line of hexadecimal each, on standard input.
+#![tactic(auto)]
+
 ghost use Rattle.std.specs.Prelude.{◌≡◌, ◌+◌, ◌≤◌, ◌<◌, length};
 ghost use Rattle.lines.specs.Lines.{most_kept};
 ghost use Rattle.dump.specs.Room.{text_room};

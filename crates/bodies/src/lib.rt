@@ -1,4 +1,6 @@
 // The body between an opening tag and its closing tag, found with an allowance of tags.
+#![tactic(auto)]
+
 mod body;
 mod item;
 mod optional;

@@ -1,4 +1,6 @@
 // The text that apdu-dump prints for a line of hexadecimal.
+#![tactic(auto)]
+
 mod frame;
 mod header_line;
 mod line;

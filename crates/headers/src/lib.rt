@@ -1,4 +1,6 @@
 // The headers of confirmed services, read and written.
+#![tactic(auto)]
+
 pub mod confirmed_service_choice;
 mod header;
 mod kind;

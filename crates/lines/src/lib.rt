@@ -1,4 +1,6 @@
 // Lines of hexadecimal, as they are read piece by piece: the frame at a place, and what is kept of a line that has not ended.
+#![tactic(auto)]
+
 mod hexadecimal;
 mod kept;
 mod lesser;

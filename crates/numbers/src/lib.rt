@@ -1,4 +1,6 @@
 // Bytes and big-endian integers, read and written at a place of a buffer.
+#![tactic(auto)]
+
 mod integer;
 mod reading;
 mod writing;

@@ -1,4 +1,6 @@
 // replay: answers requests on standard input, one a line, by calls of the exported functions and of those that run nowhere else.
+#![tactic(auto)]
+
 ghost use Rattle.std.specs.Prelude.{◌≤◌, length};
 
 mod asked;

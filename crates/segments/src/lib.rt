@@ -1,4 +1,6 @@
 // Complex acknowledgements that come in segments: the parts of their frames joined in a lent buffer.
+#![tactic(auto)]
+
 mod state;
 mod taking;
 

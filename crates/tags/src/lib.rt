@@ -1,4 +1,6 @@
 // Tags, read, expected and written, and what is written under one tag: integers, booleans and the tags of a block.
+#![tactic(auto)]
+
 mod block;
 mod header;
 mod integer;

@@ -1,4 +1,6 @@
 // Lines of words and numbers, put into a lent text.
+#![tactic(auto)]
+
 mod line;
 mod number;
 

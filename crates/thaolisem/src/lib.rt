@@ -1,4 +1,6 @@
 // The calls that a program in C or Rust makes: numbers and byte slices in, eight numbers out; and the version of these calls.
+#![tactic(auto)]
+
 mod answer;
 mod body;
 mod bytes;

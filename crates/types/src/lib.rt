@@ -1,4 +1,6 @@
 // The types that all layers share: tags, refusals, and what a check or a writer answers.
+#![tactic(auto)]
+
 mod carried;
 mod outcome;
 mod refusal;

@@ -1,4 +1,6 @@
 // RFC 3629: whether bytes are UTF-8, or the first place where no well-formed sequence begins.
+#![tactic(auto)]
+
 ghost use Rattle.std.specs.Prelude.{◌≡◌};
 ghost use Rattle.utf8.specs.Check.{check_of};
 ghost use Rattle.utf8.specs.Answer.{text_outcome, paper_check};

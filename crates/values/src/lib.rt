@@ -1,4 +1,6 @@
 // Application values: the twelve cases, read and written at a place of a buffer, a file to each.
+#![tactic(auto)]
+
 mod bits;
 mod boolean;
 mod bytes;
