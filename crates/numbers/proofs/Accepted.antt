@@ -1,6 +1,6 @@
 -- Bytes are written exactly if there is room for them, the buffer and what is lent are not too long, and the place lies inside.
 -- Assumes nothing.
-use mathlib.Core.Path.{◌≡◌, refl}
+use mathlib.Core.Path.{refl}
 use mathlib.Core.Logic.{◌↔◌}
 use Prim.Native.Nat.{ℕ}
 use mathlib.Core.List.{List}

@@ -1,0 +1,14 @@
+-- `numbers::read_eight_bytes` meets its contract, by the law of a number of a fixed count.
+-- Assumes nothing.
+use native.Mathlib.Omega.{arith}
+use Rattle.numbers.proofs.Inside.{fixed_room, fixed_read, fixed_refused}
+use Rattle.numbers.proofs.reading.read_eight_bytes.Goals as goal
+
+pub whole-requires : goal.whole-requires
+whole-requires c = (omega arith, fixed_room _ _ _ _ c.read_slice.ensures _ _ _ c.in-Slice.is)
+
+pub returns-in-Slice : goal.returns-in-Slice
+returns-in-Slice c = fixed_read 8 _ _ _ c.read_slice.ensures _ _ _ c.in-Slice.is _ c.whole.ensures
+
+pub returns-in-Refused : goal.returns-in-Refused
+returns-in-Refused c = fixed_refused 8 _ _ _ c.read_slice.ensures _ c.in-Refused.is

@@ -1,0 +1,34 @@
+-- `numbers::room` meets its contract: at each return the tests that led there say which case of `write_answer` holds.
+-- Assumes nothing.
+use native.Mathlib.Omega.{arith}
+use borrow.Author.Tests.{lt-ltb, le-ltb}
+use Prim.Native.Nat.{◌+◌, ◌<◌, ◌≤◌}
+use lib.ListN.{length}
+use Rattle.types.specs.Writing.{write_answer}
+use Rattle.numbers.proofs.writing.room.Goals as goal
+
+pub returns-then-buf-gt65535 : goal.returns-then-buf-gt65535
+unfolding write_answer
+returns-then-buf-gt65535 c = simp (lt-ltb _ _ c.if-buf-gt65535.true)
+
+pub returns-then-lent-gt65535 : goal.returns-then-lent-gt65535
+unfolding write_answer
+returns-then-lent-gt65535 c = simp (le-ltb _ _ c.if-buf-gt65535.false, lt-ltb _ _ c.if-lent-gt65535.true)
+
+pub returns-then-buf-place : goal.returns-then-buf-place
+unfolding write_answer
+returns-then-buf-place c = simp (le-ltb _ _ c.if-buf-gt65535.false, le-ltb _ _ c.if-lent-gt65535.false, lt-ltb _ _ c.if-buf-place.true)
+
+pub returns-then-buf-place-2 : goal.returns-then-buf-place-2
+unfolding write_answer
+returns-then-buf-place-2 c =
+    let a = c.args in
+    let h : length a.buf.now < a.place + a.count = omega arith in
+    simp (le-ltb _ _ c.if-buf-gt65535.false, le-ltb _ _ c.if-lent-gt65535.false, le-ltb _ _ c.if-buf-place.false, lt-ltb _ _ h)
+
+pub returns : goal.returns
+unfolding write_answer
+returns c =
+    let a = c.args in
+    let h : a.place + a.count ≤ length a.buf.now = omega arith in
+    simp (le-ltb _ _ c.if-buf-gt65535.false, le-ltb _ _ c.if-lent-gt65535.false, le-ltb _ _ c.if-buf-place.false, le-ltb _ _ h)
