@@ -2,7 +2,7 @@
 use crate::refusal::Refusal;
 
 // Passed, or why not.
-#[derive(Drop)]
+#[derive(Clone, Copy)]
 pub enum Outcome {
     Passed,
     Refused(Refusal),

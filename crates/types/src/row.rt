@@ -7,7 +7,7 @@ use crate::carried::Carried;
 use crate::tag::Tag;
 
 // The refusal's number, and what it carries.
-#[derive(Drop)]
+#[derive(Clone, Copy)]
 pub struct RefusalRow {
     pub number: u8,
     pub carried: Carried,

@@ -3,7 +3,7 @@ ghost use Rattle.std.specs.Prelude.{◌≡◌, ◌<◌, ◌%◌};
 ghost use Rattle.types.specs.Tag.{tag, application_of, number_of, class_of, number_in, tag_of};
 
 // The sixteen numbers of application class.
-#[derive(Drop)]
+#[derive(Clone, Copy)]
 pub enum ApplicationTagNumber {
     Null,
     Boolean,
@@ -75,7 +75,7 @@ impl ApplicationTagNumber {
 }
 
 // A tag's class and number.
-#[derive(Drop)]
+#[derive(Clone, Copy)]
 pub enum TagNumber {
     Application(ApplicationTagNumber),
     ContextSpecific(u8),
@@ -110,7 +110,7 @@ impl TagNumber {
 }
 
 // A tag; the value of an ordinary one is its content's length, or a Boolean's value.
-#[derive(Drop)]
+#[derive(Clone, Copy)]
 pub struct Tag {
     pub number: TagNumber,
     pub value: u32,

@@ -2,7 +2,7 @@
 use crate::refusal::Refusal;
 
 // The place after what was written, or why nothing was.
-#[derive(Drop)]
+#[derive(Clone, Copy)]
 pub enum Written {
     To(usize),
     Refused(Refusal),
