@@ -9,7 +9,7 @@ use mathlib.Core.List.{List}
 use lib.ListN.{length}
 use borrow.Author.Tests.{eq-eqb, eqb-true}
 use Rattle.types.specs.Choice.{if}
-use Rattle.types.specs.Tag.{Number, application, context, opening, closing, Tag, tag}
+use Rattle.types.specs.Tag.{Number, application, context, opening, closing, tag}
 use Rattle.types.specs.Writing.{can, unwritable, writing}
 use Rattle.types.specs.Acceptable.{Acceptable, IsAccepted}
 use Rattle.types.proofs.Accepted.{accepted_exactly}

@@ -5,7 +5,7 @@ use Prim.Native.Nat.{ℕ, ◌+◌, ◌*◌, ◌≤◌}
 use native.Mathlib.Omega.{arith}
 use mathlib.Core.List.{append-nil}
 use borrow.Author.Tests.{lt-ltb, eq-eqb}
-use Rattle.types.specs.Tag.{Tag, tag, application, context, opening, closing}
+use Rattle.types.specs.Tag.{tag, application, context, opening, closing}
 use Rattle.tags.specs.declared.short.Short.{Short}
 use Rattle.tags.specs.declared.short.Short.TheVariants as s
 use Rattle.tags.specs.Writing.{context_bytes, tag_bytes, tag_value_allowed}

@@ -19,9 +19,9 @@ use Rattle.tags.proofs.Exactly.{tag_found_lem, tag_read, tag_length}
 use Rattle.tags.proofs.OneTag.{no_bytes, one_tag}
 
 -- a kind of integer: what its reader reads stands there, what stands there it reads, and of contents of one length one alone holds an integer
-pub record IntegerKind {A : Type 0} (value_of : List ℕ → A) (integerFrom : ℕ → List ℕ → ℕ → Answer A) : Type 0 where
-  pub found : (len : ℕ) (xs : List ℕ) (place : ℕ) (v : A) (next : ℕ) → integerFrom len xs place ≡ accepted v next → IntegerFound value_of len xs place v next
-  pub there : (xs : List ℕ) (place : ℕ) (content rest : List ℕ) → length xs ≤ 65535 → 1 ≤ length content → length content ≤ 8 → drop place xs ≡ content ++ rest → integerFrom (length content) xs place ≡ accepted (value_of content) (place + length content)
+pub record IntegerKind {A : Type 0} (value_of : List ℕ → A) (integer_from : ℕ → List ℕ → ℕ → Answer A) : Type 0 where
+  pub found : (len : ℕ) (xs : List ℕ) (place : ℕ) (v : A) (next : ℕ) → integer_from len xs place ≡ accepted v next → IntegerFound value_of len xs place v next
+  pub there : (xs : List ℕ) (place : ℕ) (content rest : List ℕ) → length xs ≤ 65535 → 1 ≤ length content → length content ≤ 8 → drop place xs ≡ content ++ rest → integer_from (length content) xs place ≡ accepted (value_of content) (place + length content)
   pub one : (v : A) (a b : List ℕ) → Holds value_of v a → Holds value_of v b → length a ≡ length b → a ≡ b
 
 -- a string that is a tag and an integer has 2 to 15 bytes: one to seven of the tag, one to eight of the content
@@ -41,8 +41,8 @@ unsigned_kind = record { found = unsigned_found; there = unsigned_at; one = unsi
 pub signed_kind : IntegerKind signed_value signed_from
 signed_kind = record { found = signed_found; there = signed_at; one = signed_one_content }
 
-module _ {A : Type 0} {value_of : List ℕ → A} {integerFrom : ℕ → List ℕ → ℕ → Answer A} (kind : IntegerKind value_of integerFrom) (n : Number) (v : A) (string : List ℕ) where
-  reads_is : ReadsAs integerFrom n v string → IsIntegerItem value_of n v string
+module _ {A : Type 0} {value_of : List ℕ → A} {integer_from : ℕ → List ℕ → ℕ → Answer A} (kind : IntegerKind value_of integer_from) (n : Number) (v : A) (string : List ℕ) where
+  reads_is : ReadsAs integer_from n v string → IsIntegerItem value_of n v string
   reads_is r =
       let t = tag_found_lem string 0 r.found r.after r.tag_read in
       let i = kind.found r.found.value string r.after v r.next r.integer_read in
@@ -60,7 +60,7 @@ module _ {A : Type 0} {value_of : List ℕ → A} {integerFrom : ℕ → List �
         stands = sym i.stands;
       }
 
-  is_reads : IsIntegerItem value_of n v string → ReadsAs integerFrom n v string
+  is_reads : IsIntegerItem value_of n v string → ReadsAs integer_from n v string
   is_reads i =
       let after : ℕ = 0 + length i.header in
       let small : length string ≤ 65535 = omega (arith, item_most i) in
@@ -77,21 +77,21 @@ module _ {A : Type 0} {value_of : List ℕ → A} {integerFrom : ℕ → List �
       }
 
   -- of either kind of integer
-  pub reads_exactly : ReadsAs integerFrom n v string ↔ IsIntegerItem value_of n v string
+  pub reads_exactly : ReadsAs integer_from n v string ↔ IsIntegerItem value_of n v string
   reads_exactly = (reads_is, is_reads)
 
 -- a string reads as one class and number, and as one integer of a kind
-pub one_reading : {A : Type 0} (integerFrom : ℕ → List ℕ → ℕ → Answer A) (n m : Number) (v w : A) (string : List ℕ) → ReadsAs integerFrom n v string → ReadsAs integerFrom m w string → (n ≡ m) × (v ≡ w)
-one_reading integerFrom n m v w string p q =
+pub one_reading : {A : Type 0} (integer_from : ℕ → List ℕ → ℕ → Answer A) (n m : Number) (v w : A) (string : List ℕ) → ReadsAs integer_from n v string → ReadsAs integer_from m w string → (n ≡ m) × (v ≡ w)
+one_reading integer_from n m v w string p q =
     let t : accepted p.found p.after ≡ accepted q.found q.after = sym p.tag_read ∙ q.tag_read in
     let same : p.found ≡ q.found = cc in
     let after : p.after ≡ q.after = cc in
-    let i : accepted v p.next ≡ accepted w q.next = sym p.integer_read ∙ ap₂ (λ (f : Tag) (a : ℕ). integerFrom f.value string a) same after ∙ q.integer_read in
+    let i : accepted v p.next ≡ accepted w q.next = sym p.integer_read ∙ ap₂ (λ (f : Tag) (a : ℕ). integer_from f.value string a) same after ∙ q.integer_read in
     (sym p.number ∙ ap (λ (f : Tag). f.number) same ∙ q.number, let e : v ≡ w = cc in e)
 
 -- a string that reads begins no other that reads, whatever their tags, kinds and integers
-module _ {A B : Type 0} {value_of : List ℕ → A} {other_of : List ℕ → B} {integerFrom : ℕ → List ℕ → ℕ → Answer A} {otherFrom : ℕ → List ℕ → ℕ → Answer B} (kind : IntegerKind value_of integerFrom) (other : IntegerKind other_of otherFrom) (n m : Number) (v : A) (w : B) (string more : List ℕ) where
-  pub begins_no_other : ReadsAs integerFrom n v string → ReadsAs otherFrom m w (string ++ more) → more ≡ []
+module _ {A B : Type 0} {value_of : List ℕ → A} {other_of : List ℕ → B} {integer_from : ℕ → List ℕ → ℕ → Answer A} {other_from : ℕ → List ℕ → ℕ → Answer B} (kind : IntegerKind value_of integer_from) (other : IntegerKind other_of other_from) (n m : Number) (v : A) (w : B) (string more : List ℕ) where
+  pub begins_no_other : ReadsAs integer_from n v string → ReadsAs other_from m w (string ++ more) → more ≡ []
   begins_no_other p q =
       let i = reads_is kind n v string p in
       let j = reads_is other m w (string ++ more) q in

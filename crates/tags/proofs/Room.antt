@@ -7,7 +7,7 @@ use mathlib.Core.List.{List, ◌++◌}
 use lib.ListN.{length, length-append}
 use lib.IntN.{ℤ}
 use lib.Signed.{mag}
-use Rattle.types.specs.Tag.{Number, application, context, tag}
+use Rattle.types.specs.Tag.{Number, application, context, opening, closing, tag}
 use Rattle.types.specs.Answer.{Answer}
 use Rattle.types.specs.Writing.{can}
 use Rattle.numbers.specs.Integer.{unsigned_bytes, signed_bytes, Holds, Shortest}
@@ -27,14 +27,18 @@ use Rattle.tags.proofs.ReadsAs.{IntegerKind, unsigned_kind, signed_kind, item_le
 ordinary_range : (n : Number) → Ordinary n → (len : ℕ) → len ≤ 8 → InRange n len
 ordinary_range (application n) o len h = (o, omega arith)
 ordinary_range (context n) o len h = (o, omega arith)
+ordinary_range (opening n) o len h = elim o [ ]
+ordinary_range (closing n) o len h = elim o [ ]
 
 -- it may have any value, so 12 is never answered
 ordinary_writable : (n : Number) → Ordinary n → (len : ℕ) → writable_tag (tag n len) ≡ can
 unfolding tag_value_allowed
 ordinary_writable (application n) o len = refl
 ordinary_writable (context n) o len = refl
+ordinary_writable (opening n) o len = elim o [ ]
+ordinary_writable (closing n) o len = elim o [ ]
 
-module _ {A : Type 0} {value_of : List ℕ → A} {integerFrom : ℕ → List ℕ → ℕ → Answer A} (kind : IntegerKind value_of integerFrom) (n : Number) (o : Ordinary n) (v : A) (content : List ℕ) (s : Shortest value_of v content) where
+module _ {A : Type 0} {value_of : List ℕ → A} {integer_from : ℕ → List ℕ → ℕ → Answer A} (kind : IntegerKind value_of integer_from) (n : Number) (o : Ordinary n) (v : A) (content : List ℕ) (s : Shortest value_of v content) where
   tag_shortest : (len : ℕ) → 1 ≤ len → len ≤ 8 → OnlyShortest (StandsFor (tag n len)) (tag_bytes (tag n len))
   tag_shortest len p q = tag_only_shortest n len (ordinary_range n o len q) p
 
@@ -88,7 +92,7 @@ module _ {A : Type 0} {value_of : List ℕ → A} {integerFrom : ℕ → List �
   item_only_shortest = record { is_so = written_is; least = item_least; only = item_only }
 
   -- and so of all that read so
-  pub reads_only_shortest : OnlyShortest (ReadsAs integerFrom n v) (item_bytes n content)
+  pub reads_only_shortest : OnlyShortest (ReadsAs integer_from n v) (item_bytes n content)
   reads_only_shortest = record {
     is_so = (reads_exactly kind n v (item_bytes n content)).1 written_is;
     least = λ other r. item_least other ((reads_exactly kind n v other).0 r);
@@ -96,9 +100,9 @@ module _ {A : Type 0} {value_of : List ℕ → A} {integerFrom : ℕ → List �
   }
 
   -- the room alone decides whether it is written
-  pub exact_room : (xs : List ℕ) (place : ℕ) → length xs ≤ 65535 → place ≤ length xs → ByRoom (ReadsAs integerFrom n v) xs place (item_to n content xs place)
+  pub exact_room : (xs : List ℕ) (place : ℕ) → length xs ≤ 65535 → place ≤ length xs → ByRoom (ReadsAs integer_from n v) xs place (item_to n content xs place)
   unfolding item_to item_lent_to
-  exact_room xs place small inside = simp (ordinary_writable n o (length content)) (written_by_room (ReadsAs integerFrom n v) (item_bytes n content) reads_only_shortest xs place small inside)
+  exact_room xs place small inside = simp (ordinary_writable n o (length content)) (written_by_room (ReadsAs integer_from n v) (item_bytes n content) reads_only_shortest xs place small inside)
 
 module _ (n : Number) (o : Ordinary n) (xs : List ℕ) (place : ℕ) (small : length xs ≤ 65535) (inside : place ≤ length xs) where
   -- every unsigned 64-bit integer, and every enumerated value of 64 bits

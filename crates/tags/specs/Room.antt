@@ -26,14 +26,14 @@ TagTaken c.Application = Unit {0}
 TagTaken (c.Number n) = n < 256
 
 -- a string of bytes that reads as a class and number and an integer, by 01's rules for tags (20.2.1) and integers: the tag at its start has that class and number, its value is a length, and the integer of that length ends at the string's end
-pub record ReadsAs {A : Type 0} (integerFrom : ℕ → List ℕ → ℕ → Answer A) (n : Number) (v : A) (string : List ℕ) : Type 0 where
+pub record ReadsAs {A : Type 0} (integer_from : ℕ → List ℕ → ℕ → Answer A) (n : Number) (v : A) (string : List ℕ) : Type 0 where
   pub bytes : Bytes string
   pub found : Tag
   pub after : ℕ
   pub next : ℕ
   pub tag_read : tag_from string 0 ≡ accepted found after
   pub number : found.number ≡ n
-  pub integer_read : integerFrom found.value string after ≡ accepted v next
+  pub integer_read : integer_from found.value string after ≡ accepted v next
   pub whole : next ≡ length string
 
 -- as an unsigned integer or an enumerated value, which has no bound of its own here (20.2.4, 20.2.11)
