@@ -10,7 +10,7 @@ use borrow.Author.Tests.{le-ltb, ltb-true, eq-eqb, ne_eqb}
 use lib.ListN.{length, drop, length-append, length-drop}
 use lib.Dec.{ltb}
 use Rattle.types.specs.Choice.{if}
-use Rattle.types.specs.Tag.{Number, opening, Tag, tag}
+use Rattle.types.specs.Tag.{Number, opening, Tag}
 use Rattle.types.specs.Refusal.{Carried, amount, tag_found}
 use Rattle.types.specs.Answer.{Answer, accepted, refused, Outcome, passed, stopped}
 use Rattle.types.proofs.Choices.{either}

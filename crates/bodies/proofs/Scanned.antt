@@ -27,11 +27,11 @@ scan_hands n start xs (none {place}) unclosed next b c (suc f) k h =
     let z : unclosed ≡ 0 = omega (arith, b.equal) in
     ap (λ (s : ScanStep). scan_turn n start k place s (λ d p. scan_from f n start (k + 1) d xs p)) (step_closed n unclosed xs place next z c)
     ∙ ap (handed start (place - start) n next) (let w : k + 1 ≡ k + 0 + 1 = omega arith in w)
-scan_hands n start xs (item {place} {next = after} {end} {t} {items} e x) unclosed next b c (suc f) k h =
+scan_hands n start xs {place = place} (item {next = after} {end} {t} {items} e x) unclosed next b c (suc f) k h =
     let i : Item = item_at xs place after t in
     ap (λ (s : ScanStep). scan_turn n start k place s (λ d p. scan_from f n start (k + 1) d xs p))
     (step_by n unclosed xs place t after e ∙ goes_on n unclosed t.number after (after + content_length t) (balanced_first n unclosed i items b))
-    ∙ scan_hands n start xs x (deeper n unclosed i) next (balanced_rest n unclosed i items b) c f (k + 1) (omega arith)
+    ∙ scan_hands n start xs {place = after + content_length t} x (deeper n unclosed i) next (balanced_rest n unclosed i items b) c f (k + 1) (omega arith)
     ∙ ap (handed start (end - start) n next) (let w : k + 1 + length items + 1 ≡ k + suc (length items) + 1 = omega arith in w)
 
 -- a body is answered, with so many tags: balanced items and the closing tag
