@@ -13,6 +13,7 @@ pub(crate) enum Lead {
 }
 
 // What the first byte of a sequence asks of the bytes after it.
+#[tactic(auto, using(crate::proofs::FirstByte::rows_chosen))]
 pub(crate) fn lead_of(byte: u8) -> Lead
     ensures { as_tails result ≡ tails_of UTF8-char byte }
 {
