@@ -8,9 +8,19 @@ ghost use Rattle.apdu_dump.specs.Standing.{Inside, Numbered, Makes, Goes, Takes}
 
 use dump::LinePut;
 use lines::MOST_BYTES;
+use std::io;
+use std::io::{Eprint, ErrorKind, Read, Stderr, Stdin, Stdout, Write};
 
 // The most reads: more than any run makes, since nothing says that the input ends, and so few that the lines can be numbered.
 const MOST_READS: u64 = 70368744177664;
+
+// The program's standard streams.
+#[derive(Clone, Copy)]
+struct Streams {
+    input: Stdin,
+    output: Stdout,
+    errors: Stderr,
+}
 
 // What a read comes to.
 #[derive(Drop)]
@@ -44,6 +54,13 @@ enum Turn {
     Ended,
 }
 
+// Room for what is kept of a line and what a read brings.
+fn read_buffer() -> [u8; 65536]
+    ensures { 65536 ≡ length result }
+{
+    [0; 65536]
+}
+
 // Room for the texts of two frames at least.
 fn text_buffer() -> [u8; 262144]
     ensures { 262144 ≡ length result }
@@ -51,35 +68,68 @@ fn text_buffer() -> [u8; 262144]
     [0; 262144]
 }
 
+// Says on standard error what failed, and why: the system's words for the error, without the number that std puts behind them.
+fn say(streams: Streams, what: &str, error: io::Error) {
+    let mut text = [0u8; 128];
+    let mut rest = &mut text[..];
+    let _ = write!(rest, "{error}");
+    let len = 128usize.saturating_sub(rest.len());
+    let words = std::str::from_utf8(&text[..len]).unwrap_or("");
+    let why = match words.split_once(" (os error ") {
+        Some((front, _)) => front,
+        None => words,
+    };
+    let _ = eprintln!(streams.errors; "apdu-dump: {what}: {why}");
+}
+
 // Reads once behind what is kept; standard error says why where that fails.
-fn read_more(buf: &mut [u8], kept: usize) -> Got
+fn read_more(streams: Streams, buf: &mut [u8], kept: usize) -> Got
     requires { kept ≤ length buf.old }
     ensures { Inside result kept (length buf.old) }
 {
-    let got = libc::read(0, &mut buf[kept..]);
-    if got >= 0 {
-        return Got::Bytes(io::count(got, &buf[kept..]));
+    let mut input = streams.input;
+    match input.read(&mut buf[kept..]) {
+        Ok(count) => Got::Bytes(count),
+        Err(error) => {
+            if error.kind() == ErrorKind::Interrupted {
+                return Got::Interrupted;
+            }
+            say(streams, "standard input", error);
+            Got::Failed
+        }
     }
-    if os::errno() == libc::EINTR {
-        return Got::Interrupted;
+}
+
+// Writes all of the bytes, or stops at the first write that takes none or fails, when some may have been written.
+fn write_all(streams: Streams, bytes: &[u8]) -> io::Result<()> {
+    let mut output = streams.output;
+    let mut done = 0;
+    while done < bytes.len() {
+        let count = output.write(&bytes[done..])?;
+        if count == 0 {
+            return Err(io::Error::from(ErrorKind::WriteZero));
+        }
+        done += count;
     }
-    os::fail(b"apdu-dump: standard input");
-    Got::Failed
+    Ok(())
 }
 
 // Writes the text that waits, and answers whether all went well; standard error says why where it did not.
-fn send(out: &[u8], waiting: usize) -> bool
+fn send(streams: Streams, out: &[u8], waiting: usize) -> bool
     requires { waiting ≤ length out.now }
 {
-    if io::write_all(1, &out[0..waiting]) {
-        return true;
+    match write_all(streams, &out[0..waiting]) {
+        Ok(()) => true,
+        Err(error) => {
+            say(streams, "standard output", error);
+            false
+        }
     }
-    os::fail(b"apdu-dump: standard output");
-    false
 }
 
 // Puts the texts of the lines that were read, and writes those that wait whenever there is no room for the next.
 fn put_lines(
+    streams: Streams,
     buf: &[u8],
     ended: bool,
     first: u64,
@@ -103,7 +153,7 @@ fn put_lines(
             }
             LinePut::NoLine => break,
             LinePut::Refused(_) => {
-                if !send(out, waiting) {
+                if !send(streams, out, waiting) {
                     return Texts::Failed;
                 }
                 waiting = 0;
@@ -120,6 +170,7 @@ fn put_lines(
 
 // Writes the texts of the lines of what was read, and keeps what is left of it where the input has not ended.
 fn take_lines(
+    streams: Streams,
     buf: &mut [u8],
     ended: bool,
     number: u64,
@@ -130,13 +181,13 @@ fn take_lines(
     ensures goes { Goes result number (length buf.old) }
     ensures takes { Takes result buf.old number buf.new }
 {
-    match put_lines(buf, ended, number, frame, out) {
+    match put_lines(streams, buf, ended, number, frame, out) {
         Texts::Put {
             start,
             number: next,
             waiting,
         } => {
-            if !send(out, waiting) {
+            if !send(streams, out, waiting) {
                 return Turn::Ended;
             }
             if ended {
@@ -153,6 +204,7 @@ fn take_lines(
 
 // Reads once and takes the lines; an interrupted read changes nothing.
 fn take_turn(
+    streams: Streams,
     buf: &mut [u8],
     kept: usize,
     number: u64,
@@ -162,10 +214,10 @@ fn take_turn(
     requires { (65536 ≡ length buf.old) × (text_room ≤ length out.old) × (kept ≤ most_kept) × (number < 9223372036854775808) }
     ensures { Goes result number 65536 }
 {
-    match read_more(buf, kept) {
+    match read_more(streams, buf, kept) {
         Got::Bytes(count) => {
             let end = kept + count;
-            take_lines(&mut buf[0..end], count == 0, number, frame, out)
+            take_lines(streams, &mut buf[0..end], count == 0, number, frame, out)
         }
         Got::Interrupted => Turn::On { kept, number },
         Got::Failed => Turn::Ended,
@@ -173,7 +225,7 @@ fn take_turn(
 }
 
 // Takes turns until the input ends, or a read or a write fails.
-fn run(buf: &mut [u8], frame: &mut [u8; MOST_BYTES], out: &mut [u8])
+fn run(streams: Streams, buf: &mut [u8], frame: &mut [u8; MOST_BYTES], out: &mut [u8])
     requires { (65536 ≡ length buf.old) × (text_room ≤ length out.old) }
 {
     let mut kept = 0;
@@ -181,7 +233,7 @@ fn run(buf: &mut [u8], frame: &mut [u8; MOST_BYTES], out: &mut [u8])
     let mut reads = MOST_READS;
     while reads > 0 {
         reads -= 1;
-        match take_turn(buf, kept, number, frame, out) {
+        match take_turn(streams, buf, kept, number, frame, out) {
             Turn::On {
                 kept: bytes,
                 number: next,
@@ -197,9 +249,14 @@ fn run(buf: &mut [u8], frame: &mut [u8; MOST_BYTES], out: &mut [u8])
     }
 }
 
-fn main() {
-    let mut buf = io::large_buffer();
+fn main(rt: HostRuntime) {
+    let streams = Streams {
+        input: rt.stdin(),
+        output: rt.stdout(),
+        errors: rt.stderr(),
+    };
+    let mut buf = read_buffer();
     let mut out = text_buffer();
     let mut frame = [0u8; MOST_BYTES];
-    run(&mut buf, &mut frame, &mut out);
+    run(streams, &mut buf, &mut frame, &mut out);
 }
