@@ -12,7 +12,7 @@ use Rattle.types.specs.Refusal.{amount}
 use Rattle.types.specs.Answer.{Answer, accepted, refused, Outcome, stopped}
 use Rattle.types.proofs.Choices.{either}
 use Rattle.walk.specs.Tag.{item_from, Standing, standing, stands_at, tag_at}
-use Rattle.walk.specs.Walk.{Seen, seen, Walk, walked, ended, Step, ends, goes, closing_step, step_by, step_of, at_end, step_from, turn, walk_for, walk_on, walk_from, Report, report, reported}
+use Rattle.walk.specs.Walk.{Seen, seen, Walk, walked, ended, Step, ends, goes, closing_step, step_by, step_of, step_from, turn, walk_for, walk_on, walk_from, Report, report, reported}
 use Rattle.walk.specs.Listing.{listed_by, listed}
 use Rattle.walk.proofs.Unfolds.{a_byte_a_tag}
 

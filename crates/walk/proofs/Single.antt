@@ -5,7 +5,7 @@ use Prim.Native.Nat.{ℕ}
 use mathlib.Core.List.{List}
 use lib.ListN.{length}
 use Rattle.types.specs.Refusal.{row}
-use Rattle.types.specs.Answer.{Answer, accepted, refused, passed, stopped, Outcome}
+use Rattle.types.specs.Answer.{Answer, accepted, refused, passed, stopped}
 use Rattle.types.specs.declared.tag.Tag as program
 use Rattle.types.specs.declared.outcome.Outcome as program-outcome
 use Rattle.types.specs.declared.outcome.Outcome.TheVariants as o

@@ -4,7 +4,6 @@ use mathlib.Core.Path.{refl, ap, sym, subst}
 use Prim.Native.Nat.{ℕ}
 use lib.Dec.{eqb}
 use lib.ListN.{length, get_or-eq_default}
-use borrow.Author.Rules.{rules}
 use Rattle.types.specs.Tag.{number_of}
 use Rattle.types.specs.declared.tag.TagNumber.{TagNumber}
 use Rattle.walk.specs.Fitting.{Keepable}

@@ -1,10 +1,8 @@
 -- `walk::item_at` meets its contract: a tag that was read ends inside the buffer, so the place after its content fits, and the test says whether that lies inside.
 -- Assumes nothing.
-use borrow.Author.Rules.{rules}
 use native.Mathlib.Omega.{arith}
-use mathlib.Core.Path.{sym, ap, ◌∙◌}
+use mathlib.Core.Path.{sym}
 use borrow.Author.Tests.{lt-ltb, le-ltb}
-use Rattle.tags.specs.Reading.{paper_tag}
 use Rattle.tags.proofs.Exactly.{moves_on}
 use Rattle.walk.specs.Tag.{item_from}
 use Rattle.walk.proofs.tag.item_at.Goals as goal

@@ -1,6 +1,5 @@
 -- `walk::stands_at` meets its contract: in each arm the tag's class is known, and the tests say how many blocks are open.
 -- Assumes nothing.
-use borrow.Author.Rules.{rules}
 use borrow.Author.Tests.{lt-ltb, le-ltb, eq-eqb, ne_eqb}
 use Rattle.walk.specs.Tag.{stands_at}
 use Rattle.walk.proofs.tag.stands_at.Goals as goal

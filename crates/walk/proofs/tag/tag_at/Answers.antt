@@ -1,8 +1,6 @@
 -- `walk::tag_at` meets its contract: the item is read first, and its tag then stands by the number of open blocks.
 -- Assumes nothing.
-use borrow.Author.Rules.{rules}
-use mathlib.Core.Path.{sym, ap, ◌∙◌}
-use Rattle.tags.specs.Reading.{paper_tag}
+use mathlib.Core.Path.{sym}
 use Rattle.walk.specs.Tag.{tag_at}
 use Rattle.walk.proofs.tag.tag_at.Goals as goal
 

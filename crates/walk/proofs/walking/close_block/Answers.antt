@@ -1,6 +1,5 @@
 -- `walk::close_block` meets its contract: in each arm the list's answer is known, and the test compares the two numbers.
 -- Assumes nothing.
-use borrow.Author.Rules.{rules}
 use native.Mathlib.Omega.{arith}
 use mathlib.Core.Path.{subst}
 use borrow.Author.Tests.{eq-eqb, ne_eqb}
