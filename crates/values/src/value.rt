@@ -1,7 +1,7 @@
 // The twelve cases of an application value, and the structs that three of them hold.
 
 // A date: its year is a byte plus 1900, the other fields are bytes as they stand.
-#[derive(Drop)]
+#[derive(Clone, Copy)]
 pub struct Date {
     pub year: u16,
     pub month: u8,
@@ -10,7 +10,7 @@ pub struct Date {
 }
 
 // A time of day.
-#[derive(Drop)]
+#[derive(Clone, Copy)]
 pub struct Time {
     pub hour: u8,
     pub minute: u8,
@@ -19,14 +19,14 @@ pub struct Time {
 }
 
 // An object identifier.
-#[derive(Drop)]
+#[derive(Clone, Copy)]
 pub struct ObjectId {
     pub object_type: u16,
     pub instance: u32,
 }
 
 // A value; of text, octets and bits it has the place and the length of the bytes.
-#[derive(Drop)]
+#[derive(Clone, Copy)]
 pub enum ApplicationDataValue {
     Boolean(bool),
     Real(f32),

@@ -1,0 +1,20 @@
+-- `values::write_object_id` meets its contract: the bytes that are lent are the four of one number, the type before the instance.
+-- Assumes nothing.
+use borrow.Author.Rules.{rules}
+use native.Mathlib.Omega.{arith}
+use mathlib.Core.Path.{◌∙◌, ap}
+use Prim.Native.Nat.{ℕ, ◌≤◌}
+use mathlib.Core.List.{List}
+use lib.ListN.{length}
+use Rattle.types.specs.Tag.{application}
+use Rattle.tags.specs.Item.{item_lent_to}
+use Rattle.values.proofs.Lent.{lent_passed}
+use Rattle.values.proofs.object_id.write_object_id.Goals as goal
+
+pub returns : goal.returns
+returns c =
+    let a = c.args in
+    let few : 4 ≤ 65535 = omega arith in
+    c.encode_item.ensures
+    ∙ ap (λ (l : List ℕ). item_lent_to (length l) (application 12) l a.buf.now a.place) c.four_bytes-bytes.ensures
+    ∙ lent_passed _ _ _ _ _ few
