@@ -18,7 +18,7 @@ use Rattle.types.proofs.Accepted.{limit_exactly}
 use Rattle.numbers.specs.Reading.{Part, part_at, bytes_in, byte_from, slice_from}
 use Rattle.numbers.proofs.Found.{byte_found, byte_at, slice_found}
 use Rattle.values.specs.Bits.{Bits, bits_under, IsBits, bits_writable, BitsWrite}
-use Rattle.values.proofs.Standing.{Stood, StoodOr}
+use Rattle.values.proofs.Standing.{StoodOr}
 use Rattle.values.proofs.Parts.{part_behind, part_bytes_behind}
 
 pub bits_or : (len : ℕ) (xs : List ℕ) (place : ℕ) → StoodOr (IsBits len) xs place (bits_under len xs place)

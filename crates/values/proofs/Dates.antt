@@ -19,7 +19,7 @@ use Rattle.numbers.specs.Reading.{slice_from}
 use Rattle.numbers.proofs.Found.{slice_found, slice_at}
 use Rattle.values.specs.Date.{Date, date_of, date, date_under, IsDate, of_fields, date_bytes, date_writable, DateWrites}
 use Rattle.values.specs.declared.value.Date as program
-use Rattle.values.proofs.Standing.{Stood, StoodOr, four_bytes, first_byte, later_byte}
+use Rattle.values.proofs.Standing.{StoodOr, four_bytes, first_byte, later_byte}
 
 -- four bytes are a date, whatever the length is called
 four_are : (y m d w : ℕ) {len : ℕ} → 4 ≡ len → IsDate len (y ∷ m ∷ d ∷ w ∷ []) (date (y + 1900) m d w)

@@ -18,7 +18,7 @@ use Rattle.utf8.specs.Check.{Verdict, good, bad_at, check_of}
 use Rattle.utf8.specs.Answer.{text_outcome}
 use Rattle.utf8.proofs.Exactly.{good_exactly}
 use Rattle.values.specs.Text.{text_read, text_in, text_under, IsText, text_writable_by, text_writable}
-use Rattle.values.proofs.Standing.{Stood, StoodOr}
+use Rattle.values.proofs.Standing.{StoodOr}
 use Rattle.values.proofs.Parts.{part_behind, part_bytes_behind}
 
 pub text_or : (len : ℕ) (xs : List ℕ) (place : ℕ) → StoodOr (IsText len) xs place (text_under len xs place)

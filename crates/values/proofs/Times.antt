@@ -11,7 +11,7 @@ use Rattle.types.specs.Answer.{accepted}
 use Rattle.types.proofs.Choices.{either}
 use Rattle.values.specs.Time.{Time, time_of, time, time_under, IsTime, of_fields, time_bytes}
 use Rattle.values.specs.declared.value.Time as program
-use Rattle.values.proofs.Standing.{Stood, StoodOr, four_bytes, first_byte, later_byte}
+use Rattle.values.proofs.Standing.{StoodOr, four_bytes, first_byte, later_byte}
 
 -- four bytes are a time, whatever the length is called
 four_are : (h m s c : ℕ) {len : ℕ} → 4 ≡ len → IsTime len (h ∷ m ∷ s ∷ c ∷ []) (time h m s c)

@@ -1,9 +1,7 @@
 -- `values::read_bits` meets its contract: at each return the length and the answers that led there say which case of `bits_under` holds.
 -- Assumes nothing.
-use borrow.Author.Rules.{rules}
-use mathlib.Core.Path.{sym, ap, ◌∙◌}
+use mathlib.Core.Path.{sym}
 use borrow.Author.Tests.{lt-ltb, le-ltb}
-use Rattle.numbers.specs.Reading.{paper_byte, paper_slice}
 use Rattle.values.specs.Bits.{bits_under}
 use Rattle.values.proofs.bits.read_bits.Goals as goal
 

@@ -1,6 +1,5 @@
 -- `values::write_bits` meets its contract: the item is the count of unused bits and then the lent bytes, which are not too many.
 -- Assumes nothing.
-use borrow.Author.Rules.{rules}
 use native.Mathlib.Omega.{arith}
 use mathlib.Core.Path.{◌≡◌, ◌∙◌, ap}
 use Prim.Native.Nat.{ℕ, ◌/◌, ◌%◌}

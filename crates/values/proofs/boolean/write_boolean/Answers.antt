@@ -1,6 +1,5 @@
 -- `values::write_boolean` meets its contract: a Boolean's number is its tag's value.
 -- Assumes nothing.
-use borrow.Author.Rules.{rules}
 use mathlib.Core.Path.{◌≡◌, refl, ◌∙◌, ap}
 use mathlib.Core.Bool.{Bool, true, false}
 use mir.Val.{bool_byte}

@@ -1,6 +1,5 @@
 -- `values::eight_bytes` meets its contract: the bytes are those of the definition, whose last quotient is by 1.
 -- Assumes nothing.
-use borrow.Author.Rules.{rules}
 use native.Mathlib.Nat.{div-one}
 use Rattle.values.proofs.bytes.eight_bytes.Goals as goal
 

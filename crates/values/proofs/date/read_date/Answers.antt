@@ -1,11 +1,10 @@
 -- `values::read_date` meets its contract: where the four bytes lie inside the buffer they are the date's.
 -- Assumes nothing.
-use borrow.Author.Rules.{rules}
 use native.Mathlib.Omega.{arith}
-use mathlib.Core.Path.{◌≡◌, sym, ap, ◌∙◌}
+use mathlib.Core.Path.{◌≡◌, sym}
 use borrow.Author.Tests.{eq-eqb, ne_eqb}
 use Rattle.types.specs.Answer.{accepted}
-use Rattle.numbers.specs.Reading.{part_at, slice_from, paper_slice}
+use Rattle.numbers.specs.Reading.{part_at, slice_from}
 use Rattle.numbers.proofs.Inside.{Inside, slice_inside}
 use Rattle.values.specs.Date.{date_under}
 use Rattle.values.proofs.date.read_date.Goals as goal

@@ -1,6 +1,5 @@
 -- `values::write_date` meets its contract: the four bytes are lent, and are the date's.
 -- Assumes nothing.
-use borrow.Author.Rules.{rules}
 use native.Mathlib.Omega.{arith}
 use mathlib.Core.Path.{◌∙◌}
 use Prim.Native.Nat.{◌≤◌}

@@ -3,10 +3,9 @@
 use mathlib.Core.Path.{sym, ap, ◌∙◌}
 use Rattle.types.specs.Tag.{application}
 use Rattle.types.specs.Answer.{paper_outcome}
-use Rattle.tags.specs.Reading.{expected_from, paper_tag}
+use Rattle.tags.specs.Reading.{expected_from}
 use Rattle.values.specs.Enumerated.{enumerated_from}
 use Rattle.values.proofs.EnumeratedItems.{by_check}
-use borrow.Author.Rules.{rules}
 use Rattle.values.proofs.enumerated.decode_application_enumerated.Goals as goal
 
 pub returns-in-Passed : goal.returns-in-Passed

@@ -1,9 +1,7 @@
 -- `values::enumerated_of` meets its contract: at each return the answer and the test that led there say which case of `enumerated_under` holds.
 -- Assumes nothing.
-use borrow.Author.Rules.{rules}
-use mathlib.Core.Path.{sym, ap, ◌∙◌}
+use mathlib.Core.Path.{sym}
 use borrow.Author.Tests.{lt-ltb, le-ltb}
-use Rattle.numbers.specs.Reading.{paper_unsigned}
 use Rattle.values.specs.Integer.{enumerated_under}
 use Rattle.values.proofs.enumerated.enumerated_of.Goals as goal
 

@@ -1,8 +1,6 @@
 -- `values::read_enumerated` meets its contract: what is read is the same, in its case.
 -- Assumes nothing.
-use borrow.Author.Rules.{rules}
-use mathlib.Core.Path.{sym, ap, ◌∙◌}
-use Rattle.values.specs.Enumerated.{paper_enumerated}
+use mathlib.Core.Path.{sym}
 use Rattle.values.proofs.enumerated.read_enumerated.Goals as goal
 
 pub returns-in-Enumerated : goal.returns-in-Enumerated

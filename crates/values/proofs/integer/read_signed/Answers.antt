@@ -1,12 +1,10 @@
 -- `values::read_signed` meets its contract: at each return the answer that led there is the whole answer.
 -- Assumes nothing.
 use native.Mathlib.Omega.{arith}
-use borrow.Author.Rules.{rules}
-use mathlib.Core.Path.{◌≡◌, sym, ap, ◌∙◌}
+use mathlib.Core.Path.{◌≡◌, sym}
 use mir.Syntax.{w64}
 use mir.Val.{to_z, of_z}
 use mir.ValLaws.{to_z-of_z}
-use Rattle.numbers.specs.Reading.{paper_signed}
 use Rattle.values.proofs.integer.read_signed.Goals as goal
 
 pub returns-in-Signed : goal.returns-in-Signed

@@ -1,8 +1,6 @@
 -- `values::read_unsigned` meets its contract: at each return the answer that led there is the whole answer.
 -- Assumes nothing.
-use borrow.Author.Rules.{rules}
-use mathlib.Core.Path.{sym, ap, ◌∙◌}
-use Rattle.numbers.specs.Reading.{paper_unsigned}
+use mathlib.Core.Path.{sym}
 use Rattle.values.proofs.integer.read_unsigned.Goals as goal
 
 pub returns-in-Unsigned : goal.returns-in-Unsigned

@@ -1,9 +1,7 @@
 -- `values::read_object_id` meets its contract: at each return the length and the answer that led there say which case of `object_id_under` holds.
 -- Assumes nothing.
-use borrow.Author.Rules.{rules}
-use mathlib.Core.Path.{sym, ap, ◌∙◌}
+use mathlib.Core.Path.{sym}
 use borrow.Author.Tests.{eq-eqb, ne_eqb}
-use Rattle.numbers.specs.Reading.{paper_word}
 use Rattle.values.specs.ObjectId.{object_id_under}
 use Rattle.values.proofs.object_id.read_object_id.Goals as goal
 

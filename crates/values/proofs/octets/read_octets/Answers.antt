@@ -1,8 +1,6 @@
 -- `values::read_octets` meets its contract: at each return the answer that led there is the whole answer.
 -- Assumes nothing.
-use borrow.Author.Rules.{rules}
-use mathlib.Core.Path.{sym, ap, ◌∙◌}
-use Rattle.numbers.specs.Reading.{paper_slice}
+use mathlib.Core.Path.{sym}
 use Rattle.values.proofs.octets.read_octets.Goals as goal
 
 pub returns-in-Slice : goal.returns-in-Slice

@@ -1,6 +1,5 @@
 -- `values::write_octets` meets its contract: the item is the lent bytes alone, which are not too many.
 -- Assumes nothing.
-use borrow.Author.Rules.{rules}
 use mathlib.Core.Path.{◌∙◌}
 use Rattle.values.proofs.Lent.{lent_passed}
 use Rattle.values.proofs.octets.write_octets.Goals as goal

@@ -1,8 +1,6 @@
 -- `values::decode` meets its contract: the tag read ends inside the buffer, and the value stands under it.
 -- Assumes nothing.
-use borrow.Author.Rules.{rules}
-use mathlib.Core.Path.{sym, ap, ◌∙◌}
-use Rattle.tags.specs.Reading.{paper_tag}
+use mathlib.Core.Path.{sym}
 use Rattle.tags.proofs.Exactly.{moves_on}
 use Rattle.values.specs.Reading.{value_from}
 use Rattle.values.proofs.reading.decode.Goals as goal

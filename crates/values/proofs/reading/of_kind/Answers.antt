@@ -1,6 +1,5 @@
 -- `values::of_kind` meets its contract: in each arm the tag's name, and so its number, is known.
 -- Assumes nothing.
-use borrow.Author.Rules.{rules}
 use Rattle.values.specs.Reading.{of_kind}
 use Rattle.values.proofs.reading.of_kind.Goals as goal
 

@@ -1,6 +1,5 @@
 -- `values::under` meets its contract: in each arm the tag's class is known.
 -- Assumes nothing.
-use borrow.Author.Rules.{rules}
 use mathlib.Core.Path.{sym, ap, ◌∙◌}
 use Rattle.types.specs.Tag.{number_of, tag_of}
 use Rattle.types.specs.declared.tag.TagNumber.{TagNumber}

@@ -1,6 +1,5 @@
 -- `values::double_bits` meets its contract: a double differs from itself exactly if it is the NaN.
 -- Assumes nothing.
-use borrow.Author.Rules.{rules}
 use mathlib.Core.Path.{refl}
 use lib.Ieee.{to_bits}
 use lib.Ieee.Compare.{differs_from_itself}

@@ -1,6 +1,5 @@
 -- `values::double_of` meets its contract: the test says whether the pattern is a NaN's.
 -- Assumes nothing.
-use borrow.Author.Rules.{rules}
 use mathlib.Core.Path.{sym}
 use lib.Ieee.{div, of_bits, binary64}
 use Rattle.values.proofs.Patterns.{above_nan, below_real}

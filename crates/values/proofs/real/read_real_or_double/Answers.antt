@@ -1,9 +1,7 @@
 -- `values::read_real_or_double` meets its contract: at each return the length and the answer that led there say which of the two was read, and how.
 -- Assumes nothing.
-use borrow.Author.Rules.{rules}
-use mathlib.Core.Path.{sym, ap, ◌∙◌}
+use mathlib.Core.Path.{sym}
 use borrow.Author.Tests.{eq-eqb, ne_eqb}
-use Rattle.numbers.specs.Reading.{paper_word, paper_unsigned}
 use Rattle.values.specs.Real.{float_under}
 use Rattle.values.specs.Reading.{real_or_double}
 use Rattle.values.proofs.real.read_real_or_double.Goals as goal

@@ -1,6 +1,5 @@
 -- `values::write_real` meets its contract: the bytes that are lent are the four of the real's bits.
 -- Assumes nothing.
-use borrow.Author.Rules.{rules}
 use native.Mathlib.Omega.{arith}
 use mathlib.Core.Path.{◌∙◌, ap}
 use Prim.Native.Nat.{ℕ, ◌≤◌}

@@ -1,12 +1,11 @@
 -- `values::read_text` meets its contract: at each return the length, the set byte and the answers that led there say which case of `text_under` holds.
 -- Assumes nothing.
-use borrow.Author.Rules.{rules}
 use native.Mathlib.Omega.{arith}
-use mathlib.Core.Path.{◌≡◌, sym, ap, ◌∙◌}
+use mathlib.Core.Path.{◌≡◌, sym}
 use Prim.Native.Nat.{◌-◌}
 use borrow.Author.Tests.{lt-ltb, le-ltb, eq-eqb, ne_eqb}
 use Rattle.types.specs.Answer.{accepted}
-use Rattle.numbers.specs.Reading.{part_at, slice_from, paper_byte, paper_slice}
+use Rattle.numbers.specs.Reading.{part_at, slice_from}
 use Rattle.numbers.proofs.Inside.{Inside, slice_inside}
 use Rattle.values.specs.Text.{text_under}
 use Rattle.values.proofs.text.read_text.Goals as goal

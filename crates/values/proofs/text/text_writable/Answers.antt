@@ -1,7 +1,6 @@
 -- `values::text_writable` meets its contract: the check is of the lent bytes.
 -- Assumes nothing.
-use borrow.Author.Rules.{rules}
-use mathlib.Core.Path.{sym, ap, ◌∙◌}
+use mathlib.Core.Path.{sym}
 use Rattle.utf8.specs.Answer.{paper_check}
 use Rattle.values.specs.Text.{text_writable}
 use Rattle.values.proofs.text.text_writable.Goals as goal

@@ -1,6 +1,5 @@
 -- `values::write_text` meets its contract: the item is the set byte and then the lent bytes, which are not too many.
 -- Assumes nothing.
-use borrow.Author.Rules.{rules}
 use mathlib.Core.Path.{◌∙◌}
 use Rattle.values.proofs.Lent.{lent_passed}
 use Rattle.values.proofs.text.write_text.Goals as goal

@@ -1,6 +1,5 @@
 -- `values::read_time` meets its contract: at each return the tests that led there say which case of `time_under` holds.
 -- Assumes nothing.
-use borrow.Author.Rules.{rules}
 use borrow.Author.Tests.{lt-ltb, le-ltb, eq-eqb, ne_eqb}
 use Rattle.values.specs.Time.{time_under}
 use Rattle.values.proofs.time.read_time.Goals as goal

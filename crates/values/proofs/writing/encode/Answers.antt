@@ -1,9 +1,7 @@
 -- `values::encode` meets its contract: at each return the tests that led there say which case of `write_answer` holds.
 -- Assumes nothing.
-use borrow.Author.Rules.{rules}
-use mathlib.Core.Path.{◌≡◌, ◌∙◌, ap, sym}
+use mathlib.Core.Path.{◌≡◌, ◌∙◌, sym}
 use borrow.Author.Tests.{lt-ltb, le-ltb}
-use Rattle.types.specs.Answer.{paper_outcome}
 use Rattle.types.specs.Writing.{can, write_answer, writing}
 use Rattle.values.specs.Value.{value_of}
 use Rattle.values.specs.Writing.{writable_value, value_to}
