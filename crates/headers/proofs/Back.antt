@@ -16,7 +16,7 @@ use Rattle.numbers.specs.Integer.{unsigned_length}
 use Rattle.values.specs.Enumerated.{enumerated_bytes}
 use Rattle.values.proofs.EnumeratedItems.{enumerated_item}
 use Rattle.values.proofs.Fewest.{enumerated_length, enumerated_between}
-use Rattle.headers.specs.Header.{Kind, request, simple, complex, segment, error, reject, abort, Field, two_nibbles, one_number, one_choice, FieldValue, nibbles, number, choice, flag, enumeration, Header, header, row_of, low_nibble, kinds, header_of}
+use Rattle.headers.specs.Header.{Kind, request, simple, complex, segment, reject, abort, Field, two_nibbles, one_number, one_choice, FieldValue, nibbles, number, choice, flag, enumeration, Header, header, row_of, low_nibble, kinds, header_of}
 use Rattle.headers.specs.Reading.{header_from}
 use Rattle.headers.specs.Writing.{field_bytes, following_bytes, value_writable, both, writable, header_bytes, header_to}
 use Rattle.headers.specs.Bytes.{as_nibbles, as_number, as_choice, AreFields, none, more, AreEnumerations, no_more, another, TellsKind, IsHeader, of_row}

@@ -8,7 +8,7 @@ ghost use Rattle.tags.specs.Item.{boolean_byte};
 use crate::kind::Kind;
 
 // A header; its fields stand in the order of their bytes, and a service choice is one of `confirmed_service_choice`.
-#[derive(Drop)]
+#[derive(Clone, Copy)]
 pub enum Header {
     // The first two are numbers of four bits.
     ConfirmedRequest {
@@ -50,7 +50,7 @@ pub enum Header {
 }
 
 // A header by its kind and the numbers of its fields in their order: the first `count` of four, the rest 0.
-#[derive(Drop)]
+#[derive(Clone, Copy)]
 pub struct Description {
     pub kind: Kind,
     pub fields: [u32; 4],

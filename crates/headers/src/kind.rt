@@ -19,7 +19,7 @@ pub(crate) const REJECT: u8 = 6;
 pub(crate) const ABORT: u8 = 7;
 
 // A kind of header.
-#[derive(Drop)]
+#[derive(Clone, Copy)]
 pub enum Kind {
     Request,
     Simple,
@@ -31,7 +31,7 @@ pub enum Kind {
 }
 
 // What is known of a kind: its type of PDU by number, whether tags follow its header, and its word, the first `letters` of eight bytes, the rest 0.
-#[derive(Drop)]
+#[derive(Clone, Copy)]
 pub struct KindRow {
     pub number: u8,
     pub tagged: bool,

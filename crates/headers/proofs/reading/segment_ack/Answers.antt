@@ -1,0 +1,16 @@
+-- `headers::segment_ack` meets its contract: at each return the answers that led there say which case of the row's rule holds.
+-- Assumes nothing.
+use mathlib.Core.Path.{sym}
+use Rattle.headers.proofs.reading.segment_ack.Goals as goal
+
+pub returns-in-Byte-read_byte-2 : goal.returns-in-Byte-read_byte-2
+returns-in-Byte-read_byte-2 c = simp (sym c.in-Byte.ensures, sym c.in-Byte-read_byte.ensures, sym c.in-Byte-read_byte-2.ensures)
+
+pub returns-in-Refused-read_byte-2 : goal.returns-in-Refused-read_byte-2
+returns-in-Refused-read_byte-2 c = simp (sym c.in-Byte.ensures, sym c.in-Byte-read_byte.ensures, sym c.in-Refused-read_byte-2.ensures)
+
+pub returns-in-Refused-read_byte : goal.returns-in-Refused-read_byte
+returns-in-Refused-read_byte c = simp (sym c.in-Byte.ensures, sym c.in-Refused-read_byte.ensures)
+
+pub returns-in-Refused : goal.returns-in-Refused
+returns-in-Refused c = simp (sym c.in-Refused.ensures)
