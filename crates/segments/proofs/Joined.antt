@@ -1,6 +1,6 @@
 -- Calls one after the other from the first state on: whatever was refused between them, what is held is the parts of the accepted frames joined, and the state tells the rest.
 -- Assumes nothing.
-use Rattle.std.proofs.Common.{◌≡◌, ℕ, ◌+◌, ◌%◌, ◌≤◌, Bool, true, false, List, [], ◌∷◌, ◌++◌, length, take, drop, sym, refl, ap, ◌∙◌, append_assoc, arith, length-append, length-take, length-take-le, take_at}
+use Rattle.std.proofs.Common.{subst, ◌≡◌, ℕ, ◌+◌, ◌%◌, ◌≤◌, Bool, true, false, List, [], ◌∷◌, ◌++◌, length, take, drop, sym, refl, ap, ◌∙◌, append_assoc, arith, length-append, length-take, length-take-le, take_at}
 use Rattle.types.specs.Writing.{over}
 use Rattle.types.proofs.Choices.{either}
 use Rattle.numbers.proofs.Wrote.{over_length}
@@ -41,7 +41,8 @@ put_behind n bytes xs h =
 -- the frames before one of the same answer are of that answer
 of_same : (s : State) (id choice : ℕ) (fs : List (List ℕ)) → s.begun ≡ some fs → (s.begun ≡ true → (id ≡ s.id) × (choice ≡ s.choice)) → OfAnswer s.id s.choice fs → OfAnswer id choice fs
 of_same s id choice [] b same o = tt
-of_same s id choice (f ∷ fs) b same o = let e = same b in rw (e.0, e.1) o
+of_same s id choice (f ∷ fs) b same o = let e = same b in
+    subst (λ (i : ℕ). OfAnswer i choice (f ∷ fs)) (sym e.0) (subst (λ (k : ℕ). OfAnswer s.id k (f ∷ fs)) (sym e.1) o)
 
 module _ {fs : List (List ℕ)} {s : State} {xs : List ℕ} (k : Known fs s xs) (f ys : List ℕ) (kept : take s.held ys ≡ take s.held xs) where
   -- after a refusal all stays

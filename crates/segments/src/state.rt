@@ -4,7 +4,7 @@ ghost use Rattle.segments.specs.State.{first_state, state_of};
 
 // Whether a frame was taken, and whether the last one; the first frame's invoke id and service choice; the sequence number due; and how many bytes are held at the buffer's start.
 // The numbers are as wide as those that a caller in C lends, so that each is compared as it is: one that is no byte is no frame's.
-#[derive(Drop)]
+#[derive(Clone, Copy)]
 pub struct State {
     pub begun: bool,
     pub finished: bool,
