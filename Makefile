@@ -22,19 +22,25 @@ oracle: words replay
 mutants: kit
 	@python3 tools/mutants $(PART) $(CRATES)
 
+# What a crate is proved and built from.
+sources := crates.txt $(shell find crates/*/src crates/*/specs crates/*/proofs -type f)
+
 # The static library and its C header, in one folder; built again where a file of a crate has changed, and proved by the kit as it is built.
 lib: target/lib/libthaolisem.a
-target/lib/libthaolisem.a: crates.txt bindings/c/thaolisem.h $(shell find crates/*/src crates/*/specs crates/*/proofs -type f) | kit
+target/lib/libthaolisem.a: $(sources) bindings/c/thaolisem.h | kit
 	@mkdir -p target/lib
-	@rt staticlib thaolisem > target/lib.log 2>&1 || { tail -n 40 target/lib.log; exit 1; }
+	@(cd crates/thaolisem_c && rt lib) > target/lib.log 2>&1 || { tail -n 40 target/lib.log; exit 1; }
 	@cp bindings/c/thaolisem.h target/lib/
-	@cp target/staticlib/libthaolisem.a $@
+	@cp crates/thaolisem_c/out/libthaolisem_c.a $@
 	@echo "target/lib: libthaolisem.a thaolisem.h"
 
-# Programs, proved and built; what has not changed since is not proved again.
-apdu_dump replay: kit
+# Programs, proved and built, and run once on no input; what has not changed since, or what `rt ci` has built, is not proved again.
+apdu_dump: crates/apdu_dump/out/apdu_dump
+replay: crates/replay/out/replay
+crates/apdu_dump/out/apdu_dump crates/replay/out/replay: $(sources) | kit
 	@mkdir -p target
-	@rt check $@ > target/$@.log 2>&1 || { tail -n 40 target/$@.log; exit 1; }
+	@(cd crates/$(@F) && rt run) < /dev/null > target/$(@F).log 2>&1 || { tail -n 40 target/$(@F).log; exit 1; }
+	@touch $@
 
 kit:
 	@command -v rt >/dev/null || { echo "Thaolisem needs the Rattle kit: its command 'rt' is not on the PATH"; exit 1; }

@@ -7,27 +7,19 @@ import subprocess
 import tempfile
 
 
-def kit_tools():
-    """The folder of the kit's loader and libraries, and of its emulator where the machine is no x86-64."""
-    home = os.environ.get("RATTLE_HOME") or os.path.dirname(os.path.dirname(os.path.realpath(shutil.which("rt"))))
-    return os.path.join(home, "on", platform.machine(), "toolchain")
-
-
 def emulator():
-    """The kit's emulator; None where there is none."""
-    own = os.path.join(kit_tools(), "bin", "qemu-x86_64")
-    return own if os.access(own, os.X_OK) else None
+    """The emulator where the machine is no x86-64; None where there is none."""
+    return None if platform.machine() == "x86_64" else shutil.which("qemu-x86_64")
 
 
 def way():
     """How a run is counted on this machine."""
-    return "the kit's emulator, a Trace line for each instruction" if emulator() else "valgrind's callgrind"
+    return "qemu-x86_64, a Trace line for each instruction" if emulator() else "valgrind's callgrind"
 
 
 def by_emulator(program, given):
     """The Trace lines of a run with one instruction to a block."""
-    lib = os.path.join(kit_tools(), "lib")
-    command = [emulator(), "-one-insn-per-tb", "-d", "nochain,exec", os.path.join(lib, "ld-linux-x86-64.so.2"), "--library-path", lib, program]
+    command = [emulator(), "-one-insn-per-tb", "-d", "nochain,exec", program]
     with tempfile.TemporaryFile() as source:
         source.write(given)
         source.seek(0)
@@ -41,7 +33,7 @@ def by_emulator(program, given):
 def by_valgrind(program, given):
     """The instructions that callgrind reports of a run."""
     if not shutil.which("valgrind"):
-        raise SystemExit("counting needs the kit's emulator or valgrind")
+        raise SystemExit("counting needs qemu-x86_64 or valgrind")
     command = ["valgrind", "--tool=callgrind", "--callgrind-out-file=/dev/null", program]
     run = subprocess.run(command, input=given, stdout=subprocess.DEVNULL, stderr=subprocess.PIPE, check=True)
     return int(re.search(rb"Collected : (\d+)", run.stderr).group(1))
