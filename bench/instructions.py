@@ -1,5 +1,4 @@
 """The number of instructions that a built program executes on an input, counted exactly."""
-import os
 import platform
 import re
 import shutil
