@@ -36,10 +36,13 @@ def try_crate(crate, rounds, results):
     scratch, began = Scratch(ROOT, crate), time.time()
     if not scratch.prepare():
         sys.exit(f"{crate} is not proved as it is")
-    for number, mutants in enumerate(rounds, 1):
-        for found in judged(scratch, mutants):
-            results.add(*found)
-        print(f"{crate}: round {number} of {len(rounds)}, {time.time() - began:.0f} s", file=sys.stderr, flush=True)
+    try:
+        for number, mutants in enumerate(rounds, 1):
+            for found in judged(scratch, mutants):
+                results.add(*found)
+            print(f"{crate}: round {number} of {len(rounds)}, {time.time() - began:.0f} s", file=sys.stderr, flush=True)
+    finally:
+        scratch.clear()
 
 
 def main():

@@ -96,7 +96,8 @@ def function(source, index, owner):
             index = source.partners.get(index, index) + 1
         result = source.joined(start, index - 1)
     while source.tokens[index].text in CLAUSES:
-        index = source.partners[index + 1] + 1
+        # behind the word the clause's name may stand
+        index = source.partners[following(source, index, "{")] + 1
     last = source.partners[index]
     source.functions.append(Function(owner + (name,), parameters, result, index, last))
     return last + 1
@@ -127,7 +128,9 @@ def struct(source, index, _owner):
 
 
 def imported(source, index, _owner):
-    """Notes which crate a name comes from, and answers the index after it."""
+    """Notes which crate the names come from that a use brings in, and answers the index after it."""
     end = following(source, index, ";")
-    source.imports[source.tokens[end - 1].text] = source.tokens[index].text
+    for name in source.tokens[index + 1 : end]:
+        if name.kind == "name":
+            source.imports[name.text] = source.tokens[index].text
     return end + 1

@@ -1,42 +1,32 @@
-"""Tries mutants with the prover, in a copy of the repository below target/."""
-import os
+"""Tries mutants with the prover, in a copy of the crates outside the repository."""
 import pathlib
 import shutil
-import signal
 import subprocess
+import sys
+import tempfile
 
-LONGEST = 900
+sys.path.append(str(pathlib.Path(__file__).resolve().parents[1] / "slips"))
+from rooms import Crates, Room
 
 
 class Scratch:
-    """A copy of the repository in which one crate is changed, with what the prover keeps of the unchanged one."""
+    """A copy in which one crate is changed, with what the prover keeps of the unchanged one."""
 
     def __init__(self, root, crate):
         self.root, self.crate = pathlib.Path(root), crate
-        self.place = self.root / "target" / "mutants"
-        self.own = self.place / "crates" / crate / "src"
-        self.kept = self.place / "target" / "inc" / crate
-        self.unchanged = self.place / "unchanged" / crate
-        self.logs = self.place / "logs" / crate
-        self.number = 0
-
-    def prepare(self):
-        """Copies the repository, and proves the crate as it is; answers whether it is proved."""
-        self.place.mkdir(parents=True, exist_ok=True)
-        shutil.rmtree(self.place / "crates", ignore_errors=True)
-        shutil.copytree(self.root / "crates", self.place / "crates")
-        shutil.copy(self.root / "crates.txt", self.place / "crates.txt")
-        for part in ("rlib", "stamp"):
-            if (self.root / "target" / part).is_dir():
-                shutil.rmtree(self.place / "target" / part, ignore_errors=True)
-                shutil.copytree(self.root / "target" / part, self.place / "target" / part)
+        self.crates = Crates(self.root)
+        self.place = pathlib.Path(tempfile.mkdtemp(prefix="mutants-"))
+        self.logs = self.root / "target" / "mutants" / "logs" / crate
         self.logs.mkdir(parents=True, exist_ok=True)
         self.number = len(list(self.logs.iterdir()))
-        log = self.run()
-        shutil.rmtree(self.unchanged, ignore_errors=True)
-        if self.kept.is_dir():
-            shutil.copytree(self.kept, self.unchanged, copy_function=os.link)
-        return log is not None and "\nlogic=proved" in log
+
+    def prepare(self):
+        """Proves the crate as it is, in the repository; answers whether it is proved."""
+        return "\nlogic=proved" in self.crates.check(self.crate)
+
+    def clear(self):
+        """Removes the copy."""
+        shutil.rmtree(self.place, ignore_errors=True)
 
     def changed(self, mutants):
         """The texts of the crate's files with the mutants in them, by file."""
@@ -47,27 +37,15 @@ class Scratch:
         return texts
 
     def log_of(self, mutants):
-        """What the prover says of the crate with the mutants in it, or nothing where it takes too long."""
-        shutil.rmtree(self.own)
-        shutil.copytree(self.root / "crates" / self.crate / "src", self.own)
-        for file, text in self.changed(mutants).items():
-            (self.own / file).write_text(text)
-        shutil.rmtree(self.kept, ignore_errors=True)
-        shutil.copytree(self.unchanged, self.kept, copy_function=os.link)
-        return self.run()
-
-    def run(self):
-        """The log of one check that proves only what has changed, or nothing where it takes too long."""
-        pipes = {"stdout": subprocess.PIPE, "stderr": subprocess.STDOUT}
-        command = subprocess.Popen(["rt", "dev", self.crate], cwd=self.place, start_new_session=True, **pipes)
+        """What the prover says of the crate with the mutants in it, or nothing where it takes too long; proofs call goals and steps by the names that these have then."""
+        shutil.rmtree(self.place, ignore_errors=True)
+        room = Room(self.crates, self.crate, self.place)
+        room.write({f"src/{file}": text for file, text in self.changed(mutants).items()})
         try:
-            said, _ = command.communicate(timeout=LONGEST)
+            room.rename({"/".join(mutant.where.split("::")[1:]) for mutant in mutants if not mutant.of_constant})
+            said = room.check()
         except subprocess.TimeoutExpired:
             return None
-        finally:
-            if command.poll() is None:
-                os.killpg(command.pid, signal.SIGKILL)
-                command.wait()
         self.number += 1
-        (self.logs / f"{self.number}.log").write_bytes(said)
-        return said.decode()
+        (self.logs / f"{self.number}.log").write_text(said)
+        return said
