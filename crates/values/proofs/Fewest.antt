@@ -20,6 +20,7 @@ use Rattle.tags.specs.Room.{IsIntegerItem, OnlyShortest}
 use Rattle.tags.proofs.ReadsAs.{unsigned_kind}
 use Rattle.tags.proofs.Room.{item_only_shortest}
 use Rattle.tags.proofs.OneTag.{same_front}
+use Rattle.values.specs.Integer.{IsEnumerated}
 use Rattle.values.specs.Enumerated.{enumerated_from, enumerated_bytes, IsEnumeratedItem, under_nine, Fewest, is_there}
 use Rattle.values.proofs.EnumeratedItems.{enumerated_answers, enumerated_item, item_fits}
 
@@ -58,6 +59,10 @@ module _ (x : ℕ) (fits : x ≤ 4294967295) where
 
   written_below : Bytes (enumerated_bytes x)
   written_below = let i = shortest.is_so in subst Bytes (sym i.parts) (bytes_joined i.header i.content i.tagged.below i.bytes)
+
+  -- its content is the least
+  no_fewer : {len : ℕ} {content : List ℕ} → Bytes content → IsEnumerated len content x → length (unsigned_bytes x) ≤ length content
+  no_fewer {content = content} b i = (unsigned_shortest x (omega arith)).least content (record { some = omega (arith, i.integer.some, i.integer.sized); bytes = b; stands = sym i.integer.stands })
 
   -- the bytes that are written are the fewest
   pub written_fewest : Fewest x (enumerated_bytes x)
