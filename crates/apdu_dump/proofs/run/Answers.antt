@@ -1,0 +1,12 @@
+-- `apdu_dump::run` is safe and ends: the reads are counted down, and each read numbers no more lines than it has bytes.
+-- Assumes nothing.
+use borrow.Author.Rules.{rules}
+use native.Mathlib.Omega.{arith}
+use mathlib.Core.Path.{◌≡◌}
+use Prim.Native.Nat.{◌+◌, ◌*◌, ◌≤◌}
+use lib.ListN.{length}
+use Rattle.lines.specs.Lines.{most_kept}
+use Rattle.apdu_dump.proofs.run.Goals as goal
+
+pub loop-reads-preserved : goal.loop-reads-preserved
+loop-reads-preserved c = let g = rw c.in-On.is at c.take_turn.ensures in (omega arith, omega arith, omega (arith, g.0), omega (arith, g.1))
