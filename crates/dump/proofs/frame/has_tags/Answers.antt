@@ -2,7 +2,6 @@
 -- Assumes nothing.
 use Rattle.headers.specs.Header.{Kind, row_of}
 use mathlib.Core.Path.{◌∙◌, ap}
-use borrow.Author.Rules.{rules}
 use Rattle.dump.proofs.frame.has_tags.Goals as goal
 
 pub returns : goal.returns

@@ -1,13 +1,11 @@
 -- `dump::put_frame` meets its contract: in each arm the header's answer is known; its line is put, and behind it the walk's text or that there are no tags.
 -- Assumes nothing.
-use Rattle.headers.specs.Reading.{paper_header}
 use Rattle.headers.specs.Header.{header_of}
 use Rattle.headers.proofs.Exactly.{moves_on}
 use Rattle.text.proofs.Puts.{then}
 use Rattle.dump.specs.Frame.{frame_text}
 use native.Mathlib.Omega.{arith}
-use mathlib.Core.Path.{sym, ap, ◌∙◌}
-use borrow.Author.Rules.{rules}
+use mathlib.Core.Path.{sym, ◌∙◌}
 use Rattle.dump.proofs.frame.put_frame.Goals as goal
 
 pub put_walk-requires : goal.put_walk-requires

@@ -1,18 +1,14 @@
 -- `dump::put_walk` meets its contract: each turn puts the line of the walk's next tag, and the lines of what is left are still to come, or its outcome.
 -- Assumes nothing.
-use Rattle.walk.specs.Walk.{walk_from, seen}
-use Rattle.walk.proofs.Steps.{walk_left, step_inside, step_few, left_goes, left_ends}
-use Rattle.types.specs.Tag.{tag_of}
-use Rattle.types.specs.Answer.{paper_outcome}
-use Rattle.text.proofs.Puts.{Coming, all_coming, go_on, come}
+use Rattle.walk.specs.Walk.{walk_from}
+use Rattle.walk.proofs.Steps.{walk_left}
+use Rattle.text.proofs.Puts.{Coming}
 use Rattle.dump.specs.Frame.{walk_text}
 use Rattle.dump.specs.Room.{tag_room}
-use Rattle.dump.proofs.Walking.{rest_of, rest_begins, rest_more, rest_ended}
-use native.Mathlib.Omega.{arith}
-use Prim.Native.Nat.{◌+◌, ◌-◌, ◌*◌, ◌≤◌, ◌<◌}
+use Rattle.dump.proofs.Walking.{rest_of}
+use Prim.Native.Nat.{◌+◌, ◌-◌, ◌*◌, ◌≤◌}
 use lib.ListN.{length}
-use mathlib.Core.Path.{◌≡◌, refl, ◌∙◌, ap}
-use borrow.Author.Rules.{rules}
+use mathlib.Core.Path.{◌≡◌}
 use Rattle.dump.proofs.frame.put_walk.Given as goal
 
 abbrev pub invariant-loop-tag : goal.invariant-loop-tag

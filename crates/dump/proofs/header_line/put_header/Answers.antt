@@ -5,13 +5,10 @@ use Rattle.headers.specs.Header.{header_of, kind_of, row_of, field_numbers}
 use Rattle.types.proofs.Padded.{padded_length}
 use Rattle.dump.proofs.HeaderLines.{header_line_lem}
 use native.Mathlib.Omega.{arith}
-use Prim.Native.Nat.{ℕ, ◌-◌, ◌≤◌}
+use Prim.Native.Nat.{◌-◌, ◌≤◌}
 use lib.ListN.{length, take, get_or, length-take}
 use mathlib.Core.Path.{◌≡◌, ap}
 use mathlib.Core.List.{[], ◌∷◌}
-use mir.Syntax.{w64}
-use mir.Val.{Fits}
-use borrow.Author.Rules.{rules}
 use Rattle.dump.proofs.header_line.put_header.Goals as goal
 
 pub slice_bounds-put_words-end-2 : goal.slice_bounds-put_words-end-2

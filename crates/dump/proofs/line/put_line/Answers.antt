@@ -1,15 +1,12 @@
 -- `dump::put_line` meets its contract: in each arm it is known what stands at the place, and with it which text is put.
 -- Assumes nothing.
-use Rattle.lines.specs.Lines.{until_newline, paper_line, bytes_after}
-use Rattle.lines.specs.declared.line.Line.{Line}
-use Rattle.lines.proofs.There.{FrameTold, frame_told, other_told, none_told, never_refused, told_few}
+use Rattle.lines.specs.Lines.{until_newline}
+use Rattle.lines.proofs.There.{frame_told, other_told, none_told, never_refused, told_few}
 use Rattle.dump.proofs.LineTexts.{start_past_end, place_past_end, no_room_lem, no_line_lem, line_put, frame_text_lem, other_text}
 use native.Mathlib.Omega.{arith}
-use Prim.Native.Nat.{◌-◌, ◌≤◌}
-use Rattle.lines.specs.Hexadecimal.{most_bytes}
+use Prim.Native.Nat.{◌-◌}
 use lib.ListN.{drop}
-use mathlib.Core.Path.{refl, sym, ap, ◌∙◌}
-use borrow.Author.Rules.{rules}
+use mathlib.Core.Path.{refl}
 use Rattle.dump.proofs.line.put_line.Goals as goal
 
 pub returns-then-buf-start : goal.returns-then-buf-start

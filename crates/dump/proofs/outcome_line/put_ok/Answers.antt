@@ -5,7 +5,6 @@ use Rattle.dump.specs.Frame.{ok_line}
 use Rattle.dump.specs.Words.{ok_word}
 use native.Mathlib.Omega.{arith}
 use mathlib.Core.List.{[], ◌∷◌}
-use borrow.Author.Rules.{rules}
 use Rattle.dump.proofs.outcome_line.put_ok.Goals as goal
 
 pub returns : goal.returns

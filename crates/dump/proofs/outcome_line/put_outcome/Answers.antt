@@ -1,6 +1,5 @@
 -- `dump::put_outcome` meets its contract: in each arm the outcome is known.
 -- Assumes nothing.
-use borrow.Author.Rules.{rules}
 use Rattle.dump.proofs.outcome_line.put_outcome.Goals as goal
 
 pub returns-in-Passed : goal.returns-in-Passed

@@ -7,7 +7,6 @@ use Rattle.dump.specs.Words.{refused_word}
 use native.Mathlib.Omega.{arith}
 use mathlib.Core.Path.{◌≡◌, ap}
 use mathlib.Core.List.{[], ◌∷◌}
-use borrow.Author.Rules.{rules}
 use Rattle.dump.proofs.outcome_line.put_refused.Goals as goal
 
 pub returns : goal.returns

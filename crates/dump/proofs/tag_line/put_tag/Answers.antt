@@ -6,7 +6,6 @@ use Rattle.dump.specs.Words.{application_word, context_word, open_word, close_wo
 use Rattle.dump.proofs.TagLines.{valued_most, bare_most}
 use native.Mathlib.Omega.{arith}
 use mathlib.Core.List.{[], ◌∷◌}
-use borrow.Author.Rules.{rules}
 use Rattle.dump.proofs.tag_line.put_tag.Goals as goal
 
 pub returns-in-Application : goal.returns-in-Application
