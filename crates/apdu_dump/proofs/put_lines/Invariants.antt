@@ -1,15 +1,9 @@
 -- `apdu_dump::put_lines` is safe, ends, and makes its calls as `Calls` has them: each text put leads to a later line, and a line is refused for want of room alone, so that text waits, which is written.
 -- Assumes nothing.
-use borrow.Author.Rules.{rules}
-use native.Mathlib.Omega.{arith}
-use mathlib.Core.Path.{◌≡◌, refl, ◌∙◌, ap, sym}
-use mathlib.Core.List.{List}
-use Prim.Native.Nat.{ℕ, ◌+◌, ◌-◌, ◌≤◌, min}
+use mathlib.Core.Path.{◌≡◌}
+use Prim.Native.Nat.{◌+◌, ◌-◌, ◌≤◌, min}
 use lib.ListN.{length}
-use Rattle.dump.specs.Put.{line_left, paper_put}
-use Rattle.dump.specs.declared.line.LinePut.{LinePut}
-use Rattle.dump.proofs.Placed.{placed, moves_on, stays_inside, refused_for_room}
-use Rattle.apdu_dump.proofs.Led.{Leads, first_leads, put_leads, room_leads, all_made, none_made}
+use Rattle.apdu_dump.proofs.Led.{Leads}
 use Rattle.apdu_dump.proofs.put_lines.Given as goal
 
 abbrev pub invariant-loop-start : goal.invariant-loop-start

@@ -1,11 +1,6 @@
 -- `apdu_dump::run` is safe and ends: the reads are counted down, and each read numbers no more lines than it has bytes.
 -- Assumes nothing.
-use borrow.Author.Rules.{rules}
 use native.Mathlib.Omega.{arith}
-use mathlib.Core.Path.{◌≡◌}
-use Prim.Native.Nat.{◌+◌, ◌*◌, ◌≤◌}
-use lib.ListN.{length}
-use Rattle.lines.specs.Lines.{most_kept}
 use Rattle.apdu_dump.proofs.run.Goals as goal
 
 pub loop-reads-preserved : goal.loop-reads-preserved

@@ -1,6 +1,5 @@
 -- `apdu_dump::take_lines` is safe, and goes on as `Reading` has it: the text that waits is inside its buffer, and what is kept is short.
 -- Assumes nothing.
-use borrow.Author.Rules.{rules}
 use native.Mathlib.Omega.{arith}
 use Rattle.lines.proofs.Moved.{kept_short}
 use Rattle.apdu_dump.proofs.take_lines.Goals as goal

@@ -1,6 +1,5 @@
 -- `apdu_dump::take_turn` is safe: what is kept leaves room to read, and a read has no more lines than bytes.
 -- Assumes nothing.
-use borrow.Author.Rules.{rules}
 use native.Mathlib.Omega.{arith}
 use mathlib.Core.List.{List}
 use Prim.Native.Nat.{ℕ, ◌+◌, ◌-◌, ◌≤◌}
