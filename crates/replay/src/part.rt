@@ -1,4 +1,4 @@
-// Answers the call for a part of the buffer, whose answer holds the part: each function that has one is proved by hand, so one alone takes it apart.
+// Answers the call for a part of the buffer, whose answer holds the part.
 use crate::text::{put_bytes, put_numbers};
 use crate::told;
 use numbers::SliceRead;
