@@ -2,7 +2,7 @@
 use types::Refusal;
 
 // Where a body lies, its number and the place after its closing tag, or why none is handed over; and how many tags were read after the opening.
-#[derive(Drop)]
+#[derive(Clone, Copy)]
 pub enum BodyRead {
     Body {
         start: usize,

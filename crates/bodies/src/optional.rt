@@ -9,14 +9,14 @@ use tags::TagRead;
 use types::{Outcome, Refusal, Tag, TagNumber};
 
 // Why an optional body is absent at a place: the buffer ends there, or another tag than the body's opening stands there.
-#[derive(Drop)]
+#[derive(Clone, Copy)]
 pub enum Absence {
     EndOfBuffer,
     OtherTag(Tag),
 }
 
 // Where a body lies, as `BodyRead` has it; that it is absent, and why; or why neither can be told, and how many tags were read after the opening.
-#[derive(Drop)]
+#[derive(Clone, Copy)]
 pub enum OptionalBodyRead {
     Body {
         start: usize,

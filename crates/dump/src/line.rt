@@ -12,7 +12,7 @@ use types::Refusal;
 pub const TEXT_ROOM: usize = 86016;
 
 // What a call for the text of a line answers.
-#[derive(Drop)]
+#[derive(Clone, Copy)]
 pub enum LinePut {
     // The text is there: where the next line begins, and the place after the text.
     Put { next: usize, place: usize },

@@ -11,7 +11,7 @@ use types::Refusal;
 use values::EnumeratedRead;
 
 // A header and the place after it, where the body begins.
-#[derive(Drop)]
+#[derive(Clone, Copy)]
 pub enum HeaderRead {
     Read(Header, usize),
     Refused(Refusal),

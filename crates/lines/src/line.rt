@@ -6,7 +6,7 @@ use crate::hexadecimal::{MOST_BYTES, decode};
 use types::Refusal;
 
 // What stands at a place of what was read.
-#[derive(Drop)]
+#[derive(Clone, Copy)]
 pub enum Line {
     // The digits of a frame of so many bytes, and where the next line begins.
     Frame { bytes: usize, next: usize },

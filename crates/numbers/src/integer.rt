@@ -8,7 +8,7 @@ use crate::reading::{SliceRead, UnsignedRead, read_slice, whole, whole_at_once};
 use types::Refusal;
 
 // A signed number and the place after it.
-#[derive(Drop)]
+#[derive(Clone, Copy)]
 pub enum SignedRead {
     Signed(i64, usize),
     Refused(Refusal),

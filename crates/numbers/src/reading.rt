@@ -6,35 +6,35 @@ ghost use Rattle.numbers.specs.Reading.{byte_from, slice_from, part_of, fixed_fr
 use types::Refusal;
 
 // A byte and the place after it.
-#[derive(Drop)]
+#[derive(Clone, Copy)]
 pub enum ByteRead {
     Byte(u8, usize),
     Refused(Refusal),
 }
 
 // Where a part lies, with the place after it.
-#[derive(Drop)]
+#[derive(Clone, Copy)]
 pub enum SliceRead {
     Slice { start: usize, len: u32, next: usize },
     Refused(Refusal),
 }
 
 // A part of a buffer: where it lies or its refusal, and its bytes, which are none with a refusal.
-#[derive(Drop)]
+#[derive(Clone, Copy)]
 pub struct PartRead<'a> {
     pub outcome: SliceRead,
     pub bytes: &'a [u8],
 }
 
 // A number of two or four bytes and the place after it.
-#[derive(Drop)]
+#[derive(Clone, Copy)]
 pub enum WordRead {
     Word(u32, usize),
     Refused(Refusal),
 }
 
 // An unsigned number of up to eight bytes and the place after it.
-#[derive(Drop)]
+#[derive(Clone, Copy)]
 pub enum UnsignedRead {
     Unsigned(u64, usize),
     Refused(Refusal),

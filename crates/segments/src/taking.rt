@@ -15,7 +15,7 @@ const COMPLEX_ACK: u8 = 3;
 const HEADER: usize = 5;
 
 // What became of a frame: more are to follow, or it was the last, each with the state then.
-#[derive(Drop)]
+#[derive(Clone, Copy)]
 pub enum Taken {
     More(State),
     Finished(State),

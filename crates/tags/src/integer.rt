@@ -9,7 +9,7 @@ use crate::item::encode_low_bytes;
 use types::{ApplicationTagNumber, TagNumber, Written};
 
 // The tag that an integer is written under: the application tag of its kind, or a context number.
-#[derive(Drop)]
+#[derive(Clone, Copy)]
 pub enum ContextTag {
     Application,
     Number(u8),

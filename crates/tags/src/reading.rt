@@ -21,7 +21,7 @@ use numbers::{ByteRead, WordRead};
 use types::{ApplicationTagNumber, Outcome, Refusal, Tag, TagNumber};
 
 // A tag and the place after it.
-#[derive(Drop)]
+#[derive(Clone, Copy)]
 pub enum TagRead {
     Read(Tag, usize),
     Refused(Refusal),

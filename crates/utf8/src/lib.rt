@@ -11,7 +11,7 @@ mod plain;
 use lead::Lead;
 
 // What the check answers.
-#[derive(Drop)]
+#[derive(Clone, Copy)]
 pub enum Checked {
     Good,
     // The first place where no well-formed sequence begins.

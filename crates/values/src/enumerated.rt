@@ -12,7 +12,7 @@ use tags::TagRead;
 use types::{ApplicationTagNumber, Outcome, Refusal, TagNumber};
 
 // An enumerated value and the place after it.
-#[derive(Drop)]
+#[derive(Clone, Copy)]
 pub enum EnumeratedRead {
     Enumerated(u32, usize),
     Refused(Refusal),

@@ -3,7 +3,7 @@ use crate::value::ApplicationDataValue;
 use types::Refusal;
 
 // A value and the place after it.
-#[derive(Drop)]
+#[derive(Clone, Copy)]
 pub enum ValueRead {
     Value(ApplicationDataValue, usize),
     Refused(Refusal),

@@ -10,7 +10,7 @@ use crate::tag::{TagAt, tag_at};
 use types::{Outcome, Refusal, Tag, TagNumber};
 
 // A tag, its depth (the blocks open around it), the place after its content, and how many blocks are open there; or how the walk ends.
-#[derive(Drop)]
+#[derive(Clone, Copy)]
 pub enum Stepped {
     Accepted {
         tag: Tag,

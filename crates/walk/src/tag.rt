@@ -8,7 +8,7 @@ use tags::TagRead;
 use types::{Refusal, Tag, TagNumber};
 
 // A tag, its depth (the blocks open around it), the place after its content, and how many blocks are open there.
-#[derive(Drop)]
+#[derive(Clone, Copy)]
 pub enum TagAt {
     Accepted {
         tag: Tag,
@@ -47,6 +47,7 @@ fn item_at(buf: &[u8], place: usize) -> TagRead
 }
 
 // A tag with its depth and the blocks open after it, or 15 or 16 with its place.
+#[tactic(auto, unfolding(crate::specs::Tag::stands_at))]
 fn stands_at(place: usize, blocks: usize, tag: Tag, next: usize) -> TagAt
     ensures { paper_tag_at result ≡ stands_at place blocks (tag_of tag) next }
 {

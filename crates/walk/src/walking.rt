@@ -9,7 +9,7 @@ use crate::tag::{TagAt, tag_at};
 use types::{Outcome, Refusal, TagNumber};
 
 // How many tags the walk accepted, and how it ended.
-#[derive(Drop)]
+#[derive(Clone, Copy)]
 pub struct Walked {
     pub tags: usize,
     pub outcome: Outcome,
