@@ -3,10 +3,12 @@
 use mathlib.Core.Path.{◌≡◌, refl, ◌∙◌, ap, sym}
 use Prim.Native.Nat.{ℕ}
 use lib.Dec.{eqb}
+use Rattle.std.specs.declared.result.Result.{Result}
+use Rattle.std.specs.declared.result.Result.TheVariants.{Ok, Err}
 use Rattle.types.specs.Choice.{if}
 use Rattle.types.specs.Tag.{Number, application, context, opening, closing, Tag, application_of, number_of, tag_of}
 use Rattle.types.specs.Refusal.{Carried, amount, tag_found, Row, row, table, carried_of, paper_row}
-use Rattle.types.specs.Answer.{Answer, accepted, refused, Outcome, passed, stopped, paper_outcome}
+use Rattle.types.specs.Answer.{Answer, accepted, refused, paper_by, paper_read, Outcome, passed, stopped, paper_outcome}
 use Rattle.types.specs.Writing.{paper_written}
 use Rattle.types.specs.declared.tag.ApplicationTagNumber.{ApplicationTagNumber}
 use Rattle.types.specs.declared.tag.ApplicationTagNumber.TheVariants as a
@@ -18,10 +20,6 @@ use Rattle.types.specs.declared.refusal.Refusal.TheVariants as r
 use Rattle.types.specs.declared.carried.Carried as program-carried
 use Rattle.types.specs.declared.carried.Carried.TheVariants as c
 use Rattle.types.specs.declared.row.RefusalRow.{RefusalRow}
-use Rattle.types.specs.declared.outcome.Outcome as program-outcome
-use Rattle.types.specs.declared.outcome.Outcome.TheVariants as o
-use Rattle.types.specs.declared.written.Written.{Written}
-use Rattle.types.specs.declared.written.Written.TheVariants as w
 
 -- a map that can be undone tells its arguments apart
 pub told_apart : {A B : Type 0} (map : A → B) (back : B → A) → ((x : A) → back (map x) ≡ x) → (x y : A) → map x ≡ map y → x ≡ y
@@ -144,26 +142,42 @@ refusal_back r.AlreadyFinished = refl
 pub single_refusal : (x y : Refusal) → table x ≡ table y → x ≡ y
 single_refusal = told_apart table program_refusal refusal_back
 
-abbrev written : Answer (Unit {0}) → Written
-written (accepted u next) = w.To next
-written (refused k c) = w.Refused (program_refusal (row k c))
+-- no two answers of a reader are the same on paper, if no two values are
+module _ {A B : Type 0} (map : A → B) (back : B → A) (undone : (x : A) → back (map x) ≡ x) where
+  abbrev read : Answer B → Result (A × ℕ) Refusal
+  read (accepted b next) = Ok (back b, next)
+  read (refused k c) = Err (program_refusal (row k c))
 
-written_back : (x : Written) → written (paper_written x) ≡ x
-written_back (w.To next) = refl
-written_back (w.Refused x) = ap w.Refused (refusal_back x)
+  read_back : (x : Result (A × ℕ) Refusal) → read (paper_by map x) ≡ x
+  read_back (Ok x) = ap (λ (a : A). Ok (a, x.1)) (undone x.0)
+  read_back (Err x) = ap Err (refusal_back x)
+
+  pub single_by : (x y : Result (A × ℕ) Refusal) → paper_by map x ≡ paper_by map y → x ≡ y
+  single_by = told_apart (paper_by map) read read_back
+
+pub single_read : {A : Type 0} (x y : Result (A × ℕ) Refusal) → paper_read x ≡ paper_read y → x ≡ y
+single_read = single_by (λ x. x) (λ x. x) (λ x. refl)
+
+abbrev written : Answer (Unit {0}) → Result ℕ Refusal
+written (accepted u next) = Ok next
+written (refused k c) = Err (program_refusal (row k c))
+
+written_back : (x : Result ℕ Refusal) → written (paper_written x) ≡ x
+written_back (Ok next) = refl
+written_back (Err x) = ap Err (refusal_back x)
 
 -- no two answers of a writer are the same on paper
-pub single_written : (x y : Written) → paper_written x ≡ paper_written y → x ≡ y
+pub single_written : (x y : Result ℕ Refusal) → paper_written x ≡ paper_written y → x ≡ y
 single_written = told_apart paper_written written written_back
 
-abbrev outcome : Outcome → program-outcome.Outcome
-outcome passed = o.Passed
-outcome (stopped k c) = o.Refused (program_refusal (row k c))
+abbrev outcome : Outcome → Result (Unit {0}) Refusal
+outcome passed = Ok tt
+outcome (stopped k c) = Err (program_refusal (row k c))
 
-outcome_back : (x : program-outcome.Outcome) → outcome (paper_outcome x) ≡ x
-outcome_back o.Passed = refl
-outcome_back (o.Refused x) = ap o.Refused (refusal_back x)
+outcome_back : (x : Result (Unit {0}) Refusal) → outcome (paper_outcome x) ≡ x
+outcome_back (Ok u) = refl
+outcome_back (Err x) = ap Err (refusal_back x)
 
 -- no two outcomes are the same on paper
-pub single_outcome : (x y : program-outcome.Outcome) → paper_outcome x ≡ paper_outcome y → x ≡ y
+pub single_outcome : (x y : Result (Unit {0}) Refusal) → paper_outcome x ≡ paper_outcome y → x ≡ y
 single_outcome = told_apart paper_outcome outcome outcome_back

@@ -1,11 +1,9 @@
 -- What a reader or a check answers, on paper: a value with the place after it, or a refusal's number with what it carries (document 01, "Refusal numbers").
 -- Assumes nothing.
-use Rattle.std.specs.Prelude.{ℕ, List, length, ltb}
+use Rattle.std.specs.Prelude.{ℕ, List, length, ltb, Result, Ok, Err}
 use Rattle.types.specs.Choice.{if}
 use Rattle.types.specs.Refusal.{Carried, amount, table}
 use Rattle.types.specs.declared.refusal.Refusal.{Refusal}
-use Rattle.types.specs.declared.outcome.Outcome as program
-use Rattle.types.specs.declared.outcome.Outcome.TheVariants as o
 
 pub data Answer (A : Type 0) : Type 0 where
   accepted : A → ℕ → Answer A
@@ -14,6 +12,15 @@ pub data Answer (A : Type 0) : Type 0 where
 -- a refusal of the program, on paper
 abbrev pub refusal : {A : Type 0} → Refusal → Answer A
 refusal r = refused (table r).number (table r).carries
+
+-- what a reader of the program answers, on paper: the value by its own map, with the place after it, or the refusal
+abbrev pub paper_by : {A B : Type 0} → (A → B) → Result (A × ℕ) Refusal → Answer B
+paper_by f (Ok read) = accepted (f read.0) read.1
+paper_by f (Err r) = refusal r
+
+-- the same of a value that is itself on paper
+abbrev pub paper_read : {A : Type 0} → Result (A × ℕ) Refusal → Answer A
+paper_read = paper_by (λ x. x)
 
 -- read on from where a reading ended; a refusal is final
 abbrev pub then : {A B : Type 0} → Answer A → (A → ℕ → Answer B) → Answer B
@@ -31,6 +38,6 @@ pub data Outcome : Type 0 where
   passed : Outcome
   stopped : ℕ → Carried → Outcome
 
-abbrev pub paper_outcome : program.Outcome → Outcome
-paper_outcome o.Passed = passed
-paper_outcome (o.Refused r) = stopped (table r).number (table r).carries
+abbrev pub paper_outcome : Result (Unit {0}) Refusal → Outcome
+paper_outcome (Ok u) = passed
+paper_outcome (Err r) = stopped (table r).number (table r).carries

@@ -1,15 +1,14 @@
 -- What a writer answers and leaves, on paper (document 01, "Refusal numbers").
 -- Assumes nothing.
-use Rattle.std.specs.Prelude.{ℕ, ◌+◌, List, ◌++◌, length, take, drop, ltb}
+use Rattle.std.specs.Prelude.{ℕ, ◌+◌, List, ◌++◌, length, take, drop, ltb, Result, Ok, Err}
 use Rattle.types.specs.Choice.{if}
 use Rattle.types.specs.Refusal.{Carried, amount}
 use Rattle.types.specs.Answer.{Answer, accepted, refused, refusal}
-use Rattle.types.specs.declared.written.Written.{Written}
-use Rattle.types.specs.declared.written.Written.TheVariants as w
+use Rattle.types.specs.declared.refusal.Refusal.{Refusal}
 
-abbrev pub paper_written : Written → Answer (Unit {0})
-paper_written (w.To next) = accepted tt next
-paper_written (w.Refused r) = refusal r
+abbrev pub paper_written : Result ℕ Refusal → Answer (Unit {0})
+paper_written (Ok next) = accepted tt next
+paper_written (Err r) = refusal r
 
 -- whether a value can be written at all: if not, the refusal's number and what it carries
 pub data Writable : Type 0 where

@@ -1,16 +1,14 @@
-// The types that all layers share: tags, refusals, and what a check or a writer answers.
+// The types that all layers share: tags and refusals.
 #![tactic(auto)]
 
 mod carried;
-mod outcome;
+mod counted;
 mod refusal;
 mod row;
 mod tag;
-mod written;
 
 pub use carried::Carried;
-pub use outcome::Outcome;
+pub use counted::CountedRefusal;
 pub use refusal::Refusal;
 pub use row::RefusalRow;
 pub use tag::{ApplicationTagNumber, Tag, TagNumber};
-pub use written::Written;

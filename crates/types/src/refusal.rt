@@ -6,7 +6,7 @@ use crate::row::RefusalRow;
 use crate::tag::Tag;
 
 // The refusals of documents 01 and 02, in the order of their numbers: when each is given, and what it carries.
-#[derive(Clone, Copy)]
+#[derive(Clone, Copy, PartialEq, Eq)]
 pub enum Refusal {
     // The buffer, or the lent content, is longer than 65,535 bytes: its length.
     BufferTooLong(usize),

@@ -7,7 +7,7 @@ use crate::carried::Carried;
 use crate::tag::Tag;
 
 // The refusal's number, and what it carries.
-#[derive(Clone, Copy)]
+#[derive(Clone, Copy, PartialEq, Eq)]
 pub struct RefusalRow {
     pub number: u8,
     pub carried: Carried,

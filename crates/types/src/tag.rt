@@ -3,28 +3,28 @@ ghost use Rattle.std.specs.Prelude.{◌≡◌, ◌<◌, ◌%◌};
 ghost use Rattle.types.specs.Tag.{tag, application_of, number_of, class_of, number_in, tag_of};
 
 // The sixteen numbers of application class.
-#[derive(Clone, Copy)]
+#[derive(Clone, Copy, PartialEq, Eq)]
 pub enum ApplicationTagNumber {
-    Null,
-    Boolean,
-    UnsignedInt,
-    SignedInt,
-    Real,
-    Double,
-    OctetString,
-    CharacterString,
-    BitString,
-    Enumerated,
-    Date,
-    Time,
-    ObjectId,
-    Reserve1,
-    Reserve2,
-    Reserve3,
+    Null = 0,
+    Boolean = 1,
+    UnsignedInt = 2,
+    SignedInt = 3,
+    Real = 4,
+    Double = 5,
+    OctetString = 6,
+    CharacterString = 7,
+    BitString = 8,
+    Enumerated = 9,
+    Date = 10,
+    Time = 11,
+    ObjectId = 12,
+    Reserve1 = 13,
+    Reserve2 = 14,
+    Reserve3 = 15,
 }
 
 impl ApplicationTagNumber {
-    // The name that stands for the low four bits of a number.
+    // The name that stands for the low four bits of a number; no `From<u8>`, which would hide that the others are not read.
     pub fn named(number: u8) -> Self
         ensures { application_of result ≡ number % 16 }
     {
@@ -53,29 +53,12 @@ impl ApplicationTagNumber {
         ensures value { result ≡ application_of self }
         ensures upper_bound { result < 16 }
     {
-        match self {
-            ApplicationTagNumber::Null => 0,
-            ApplicationTagNumber::Boolean => 1,
-            ApplicationTagNumber::UnsignedInt => 2,
-            ApplicationTagNumber::SignedInt => 3,
-            ApplicationTagNumber::Real => 4,
-            ApplicationTagNumber::Double => 5,
-            ApplicationTagNumber::OctetString => 6,
-            ApplicationTagNumber::CharacterString => 7,
-            ApplicationTagNumber::BitString => 8,
-            ApplicationTagNumber::Enumerated => 9,
-            ApplicationTagNumber::Date => 10,
-            ApplicationTagNumber::Time => 11,
-            ApplicationTagNumber::ObjectId => 12,
-            ApplicationTagNumber::Reserve1 => 13,
-            ApplicationTagNumber::Reserve2 => 14,
-            ApplicationTagNumber::Reserve3 => 15,
-        }
+        self as u8
     }
 }
 
 // A tag's class and number.
-#[derive(Clone, Copy)]
+#[derive(Clone, Copy, PartialEq, Eq)]
 pub enum TagNumber {
     Application(ApplicationTagNumber),
     ContextSpecific(u8),
@@ -84,7 +67,7 @@ pub enum TagNumber {
 }
 
 impl TagNumber {
-    // The class: 1 application, 2 context, 3 opening, 4 closing.
+    // The class: 1 application, 2 context, 3 opening, 4 closing; a number, as C is told it.
     pub fn class(self) -> u8
         ensures { result ≡ class_of (number_of self) }
     {
@@ -102,15 +85,15 @@ impl TagNumber {
     {
         match self {
             TagNumber::Application(name) => name.number(),
-            TagNumber::ContextSpecific(number) => number,
-            TagNumber::ContextSpecificOpening(number) => number,
-            TagNumber::ContextSpecificClosing(number) => number,
+            TagNumber::ContextSpecific(number)
+            | TagNumber::ContextSpecificOpening(number)
+            | TagNumber::ContextSpecificClosing(number) => number,
         }
     }
 }
 
 // A tag; the value of an ordinary one is its content's length, or a Boolean's value.
-#[derive(Clone, Copy)]
+#[derive(Clone, Copy, PartialEq, Eq)]
 pub struct Tag {
     pub number: TagNumber,
     pub value: u32,
