@@ -1,22 +1,18 @@
 -- What an accepted read or write says of the buffer.
 -- Assumes nothing.
-use mathlib.Core.Path.{◌≡◌, refl, sym, ap, subst, ◌∙◌}
+use mathlib.Core.Path.{◌≡◌, refl, sym}
 use Prim.Native.Nat.{ℕ, ◌+◌, ◌<◌, ◌≤◌}
 use native.Mathlib.Omega.{arith}
 use mathlib.Core.List.{List}
-use lib.ListN.{length, take, drop}
+use lib.ListN.{length}
 use lib.Dec.{ltb}
 use borrow.Author.Tests.{ltb-false}
 use Rattle.types.specs.Refusal.{amount}
-use Rattle.types.specs.Answer.{Answer, accepted, refused, refusal, then}
+use Rattle.types.specs.Answer.{Answer, accepted, refused}
 use Rattle.types.specs.Choice.{if}
 use Rattle.types.specs.Writing.{Writable, can, cannot, unless, write_answer}
-use Rattle.types.specs.declared.refusal.Refusal.{Refusal}
 use Rattle.types.proofs.Choices.{either}
-use Rattle.numbers.specs.Integer.{unsigned_value}
-use Rattle.numbers.specs.Reading.{Part, part_at, bytes_in, slice_from, fixed_from, content_from, paper_slice}
-use Rattle.numbers.specs.declared.reading.SliceRead.{SliceRead}
-use Rattle.numbers.specs.declared.reading.SliceRead.TheVariants as s
+use Rattle.numbers.specs.Reading.{Part, slice_from, content_from}
 
 -- a part that is answered for n bytes from a place on is those bytes, inside the buffer, with the place after them
 abbrev pub Inside : ℕ → List ℕ → ℕ → Answer Part → Type 0
@@ -30,27 +26,9 @@ slice_inside n xs place =
     either (Inside n xs place) (ltb (length xs) place) (λ f. tt) (λ f.
     either (Inside n xs place) (ltb (length xs) (place + n)) (λ g. tt) (λ g. (refl, refl, refl, ltb-false (length xs) (place + n) g))))
 
--- a number of n bytes, by what reading their part has answered
-module _ (n : ℕ) (xs : List ℕ) (place : ℕ) (r : SliceRead) (answered : paper_slice r ≡ slice_from n xs place) where
-  fixed_by_part : (x : SliceRead) → r ≡ x → then (paper_slice x) (λ p next. accepted (unsigned_value (bytes_in xs p)) next) ≡ fixed_from n xs place
-  unfolding fixed_from
-  fixed_by_part x e = ap (λ (a : Answer Part). then a (λ p next. accepted (unsigned_value (bytes_in xs p)) next)) (ap paper_slice (sym e) ∙ answered)
-
-  module _ (start size next : ℕ) (e : r ≡ s.Slice start size next) where
-    part_inside : Inside n xs place (accepted (part_at start size) next)
-    part_inside = subst (Inside n xs place) (sym answered ∙ ap paper_slice e) (slice_inside n xs place)
-
-    -- its bytes lie inside the buffer
-    pub fixed_room : start + n ≤ length xs
-    fixed_room = let h : Inside n xs place (accepted (part_at start size) next) = part_inside in omega arith
-
-    -- what they stand for is the number
-    pub fixed_read : (v : ℕ) → v ≡ unsigned_value (take n (drop start xs)) → accepted v next ≡ fixed_from n xs place
-    fixed_read v f = ap (λ (x : ℕ). accepted x next) (f ∙ ap (λ (m : ℕ). unsigned_value (take m (drop start xs))) (sym part_inside.1)) ∙ fixed_by_part (s.Slice start size next) e
-
-  -- it is refused for what the part was
-  pub fixed_refused : (x : Refusal) → r ≡ s.Refused x → refusal x ≡ fixed_from n xs place
-  fixed_refused x e = fixed_by_part (s.Refused x) e
+-- so where it is answered, it is such a part
+pub part_inside : (n : ℕ) (xs : List ℕ) (place : ℕ) (p : Part) (next : ℕ) → accepted p next ≡ slice_from n xs place → Inside n xs place (accepted p next)
+part_inside n xs place p next answered = rw (sym answered) at (slice_inside n xs place)
 
 -- an integer's content has besides 1 to 8 bytes
 abbrev pub Held : ℕ → List ℕ → ℕ → Answer Part → Type 0
@@ -70,6 +48,10 @@ content_held n xs place =
     either (Held n xs place) (ltb 8 n) (λ h. tt) (λ h.
     held n xs place (omega (arith, ltb-false n 1 g)) (omega (arith, ltb-false 8 n h)) (slice_from n xs place) (slice_inside n xs place)))))
 
+-- so where it is answered, it is such a content
+pub content_inside : (n : ℕ) (xs : List ℕ) (place : ℕ) (p : Part) (next : ℕ) → accepted p next ≡ content_from n xs place → Held n xs place (accepted p next)
+content_inside n xs place p next answered = rw (sym answered) at (content_held n xs place)
+
 -- a write of n bytes that is accepted ends inside the buffer, which is not too long
 abbrev pub Room : ℕ → List ℕ → ℕ → Answer (Unit {0}) → Type 0
 Room n xs place (accepted u next) = (next ≡ place + n) × (place + n ≤ length xs) × (length xs ≤ 65535)
@@ -85,3 +67,6 @@ write_room lent w n xs place =
     go : (w : Writable) → length xs ≤ 65535 → Room n xs place (unless w (if (ltb (length xs) (place + n)) (refused 13 (amount n)) (accepted tt (place + n))))
     go can small = either (Room n xs place) (ltb (length xs) (place + n)) (λ h. tt) (λ h. (refl, ltb-false (length xs) (place + n) h, small))
     go (cannot k c) small = tt
+
+pub room_inside : (lent : ℕ) (w : Writable) (n : ℕ) (xs : List ℕ) (place next : ℕ) → accepted tt next ≡ write_answer lent w n xs place → Room n xs place (accepted tt next)
+room_inside lent w n xs place next answered = rw (sym answered) at (write_room lent w n xs place)

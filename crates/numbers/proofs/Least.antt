@@ -3,12 +3,12 @@
 use mathlib.Core.Path.{◌≡◌, refl, ◌∙◌, ap, sym}
 use mathlib.Core.Logic.{⊎_elim}
 use mathlib.Core.Bool.{Bool, true, false}
-use Prim.Native.Nat.{ℕ, zero, suc, ◌+◌, ◌-◌, ◌*◌, ◌%◌, ◌^◌, ◌<◌, ◌≤◌}
+use Prim.Native.Nat.{ℕ, zero, suc, ◌+◌, ◌*◌, ◌^◌, ◌<◌, ◌≤◌}
 use native.Mathlib.Omega.{arith}
 use native.Mathlib.Decide.{dec_lt}
 use native.Mathlib.Nat.{add-suc, suc-add, zero-add, eq-or-lt_of_le, pow-succ'}
-use lib.Dec.{ltb, lit<}
-use lib.Pow.{pow-add, shl_exact}
+use lib.Dec.{ltb}
+use lib.Pow.{pow-add}
 use borrow.Author.Tests.{lt-ltb, ltb-true, ltb-false}
 use Rattle.types.specs.Choice.{if}
 use Rattle.numbers.specs.Integer.{first_from, unsigned_length}
@@ -67,11 +67,3 @@ bytes_as_bits zero = refl
 bytes_as_bits (suc n) =
     let e : 8 * suc n ≡ 8 + 8 * n = omega arith in
     pow-succ' 256 n ∙ rw (e, pow-add 2 8 (8 * n), bytes_as_bits n)
-
--- a bit moved up to the top of n bytes is half of 256 ^ n
-pub half_of_bytes : (n : ℕ) → 0 < n → n < 9 → ((1 * 2 ^ (8 * n - 1)) % 2 ^ 64) * 2 ≡ 256 ^ n
-half_of_bytes n p q =
-    let e : (1 * 2 ^ (8 * n - 1)) % 2 ^ 64 ≡ 1 * 2 ^ (8 * n - 1) = shl_exact 1 (8 * n - 1) 64 (lit< tt) (omega arith) in
-    let f : 8 * n - 1 + 1 ≡ 8 * n = omega arith in
-    let g : 2 ^ (8 * n) ≡ 2 ^ (8 * n - 1) * 2 = rw f at (pow-add 2 (8 * n - 1) 1) in
-    omega (arith, bytes_as_bits n)

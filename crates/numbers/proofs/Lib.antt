@@ -1,7 +1,7 @@
 pub mod Value
 pub mod Low
-pub mod Flip
 pub mod Least
+pub mod Extended
 pub mod Shortest
 pub mod OneContent
 pub mod Ends

@@ -1,13 +1,13 @@
 -- Bytes of a buffer replaced, one at a time and all at once.
 -- Assumes nothing.
 use mathlib.Core.Path.{◌≡◌, ◌∙◌, ap, sym}
-use Prim.Native.Nat.{ℕ, ◌+◌, ◌/◌, ◌%◌, ◌^◌, ◌<◌}
+use Prim.Native.Nat.{ℕ, ◌+◌, ◌-◌, ◌/◌, ◌%◌, ◌^◌, ◌<◌}
 use native.Mathlib.Nat.{add-zero}
 use native.Mathlib.Numerals.{add-one}
 use native.Mathlib.Omega.{arith}
 use mathlib.Core.List.{List, [], ◌∷◌, ◌++◌, append_assoc}
 use lib.ListN.{length, take, drop, set, get_or, take-append-drop}
-use lib.Seq.{set_split, take-suc, set-append_seam, length-take-le, paste, take_all}
+use lib.Seq.{set_split, take-suc, set-append_seam, length-take-le, drop-drop}
 use Rattle.types.specs.Writing.{over}
 use Rattle.numbers.specs.Integer.{low_bytes}
 use Rattle.numbers.proofs.Low.{low_bytes_length, low_bytes_more}
@@ -16,19 +16,21 @@ use Rattle.numbers.proofs.Low.{low_bytes_length, low_bytes_more}
 pub one_replaced : (xs : List ℕ) (place b : ℕ) → place < length xs → set xs place b ≡ over xs place (b ∷ [])
 one_replaced xs place b h = set_split xs place b h ∙ rw (add-one place)
 
--- a whole list pasted replaces as many bytes
-pub paste_all : (xs : List ℕ) (place : ℕ) (bytes : List ℕ) → paste xs place bytes (length bytes) ≡ over xs place bytes
-paste_all xs place bytes = rw (take_all (length bytes) bytes (omega arith), append_assoc)
+-- a slice copied replaces as many bytes
+pub slice_replaced : (xs : List ℕ) (place next : ℕ) (bytes : List ℕ) → next ≡ place + length bytes → take place xs ++ (bytes ++ drop (next - place) (drop place xs)) ≡ over xs place bytes
+slice_replaced xs place next bytes e =
+    let n : next - place ≡ length bytes = omega arith in
+    rw (n, drop-drop)
 
 -- low bytes written from the last to the first: none yet
 pub none_written : (xs : List ℕ) (end : ℕ) → xs ≡ take end xs ++ drop end xs
 none_written xs end = sym (take-append-drop end xs)
 
 -- one byte more
-pub byte_written : (xs : List ℕ) (place k v : ℕ) (rest : List ℕ) → place < length xs
-    → set (take (place + 1) xs ++ (low_bytes k v ++ rest)) place (v / 256 ^ k % 256) ≡ take place xs ++ (low_bytes (k + 1) v ++ rest)
-byte_written xs place k v rest h =
-    let e : take (place + 1) xs ++ (low_bytes k v ++ rest) ≡ take place xs ++ (get_or xs place 0 ∷ (low_bytes k v ++ rest)) = rw (add-one place, take-suc xs place 0 h, append_assoc) in
+pub byte_written : (xs : List ℕ) (end place k v : ℕ) (rest : List ℕ) → end ≡ place + 1 → place < length xs
+    → set (take end xs ++ (low_bytes k v ++ rest)) place (v / 256 ^ k % 256) ≡ take place xs ++ (low_bytes (k + 1) v ++ rest)
+byte_written xs end place k v rest m h =
+    let e : take end xs ++ (low_bytes k v ++ rest) ≡ take place xs ++ (get_or xs place 0 ∷ (low_bytes k v ++ rest)) = rw (m, add-one place, take-suc xs place 0 h, append_assoc) in
     let l : length (take place xs) ≡ place = length-take-le place xs (omega arith) in
     let b : ℕ = v / 256 ^ k % 256 in
     ap (λ (ys : List ℕ). set ys place b) e

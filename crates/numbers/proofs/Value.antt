@@ -1,26 +1,14 @@
 -- Laws of the numbers that bytes stand for.
 -- Assumes nothing.
-use mathlib.Core.Path.{◌≡◌, refl, sym}
+use mathlib.Core.Path.{◌≡◌, sym}
 use Prim.Native.Nat.{ℕ, zero, suc, ◌+◌, ◌*◌, ◌^◌, ◌<◌, ◌≤◌}
 use native.Mathlib.Nat.{pow-succ', one-le-pow, pow-le-pow_right, mul_assoc, mul-le-mul_left, mul-le-mul_right, lt_of_lt_of_le}
-use native.Mathlib.Numerals.{add-one}
 use native.Mathlib.Omega.{arith}
 use mathlib.Core.List.{List, [], ◌∷◌, ◌++◌}
-use lib.ListN.{length, get_or, take, drop, length-drop}
+use lib.ListN.{length, take, drop, take-append-drop}
 use lib.Dec.{lit<}
-use lib.Seq.{take-suc, get_or-drop, take_all}
+use lib.Seq.{get_or-drop, take_all}
 use Rattle.numbers.specs.Integer.{followed_by, unsigned_value, Bytes}
-
-followed_by_last : (a : ℕ) (l : List ℕ) (b : ℕ) → followed_by a (l ++ (b ∷ [])) ≡ followed_by a l * 256 + b
-followed_by_last a [] b = refl
-followed_by_last a (x ∷ l) b = followed_by_last (a * 256 + x) l b
-
--- one byte more
-pub value_more : (xs : List ℕ) (start n : ℕ) → start + n < length xs
-    → unsigned_value (take (n + 1) (drop start xs)) ≡ unsigned_value (take n (drop start xs)) * 256 + get_or xs (start + n) 0
-value_more xs start n h =
-    let g : n < length (drop start xs) = simp length-drop (omega arith) in
-    rw (add-one, take-suc (drop start xs) n 0 g, followed_by_last, get_or-drop)
 
 -- n bytes behind a: less than one more than a, moved up by n bytes
 followed_by_lt : (n a : ℕ) (xs : List ℕ) → Bytes xs → followed_by a (take n xs) < suc a * 256 ^ n
@@ -44,6 +32,9 @@ pub bytes_before : (a b : List ℕ) → Bytes (a ++ b) → Bytes a
 bytes_before [] b h i = lit< tt
 bytes_before (x ∷ a) b h zero = h 0
 bytes_before (x ∷ a) b h (suc i) = bytes_before a b (λ j. h (suc j)) i
+
+pub bytes_taken : (n : ℕ) (xs : List ℕ) → Bytes xs → Bytes (take n xs)
+bytes_taken n xs h = bytes_before (take n xs) (drop n xs) (rw take-append-drop h)
 
 pub bytes_behind : (a b : List ℕ) → Bytes (a ++ b) → Bytes b
 bytes_behind [] b h = h

@@ -1,20 +1,13 @@
 -- Bytes and integers read at a place of a buffer, in 01's order of refusals, and the maps from the program's answers.
 -- Assumes nothing.
-use Rattle.std.specs.Prelude.{ℕ, ◌+◌, List, [], length, get_or, take, drop, ltb, leb, ℤ}
+use Rattle.std.specs.Prelude.{ℕ, ◌+◌, List, [], length, get_or, take, drop, ltb, leb, ℤ, Result, Ok, Err}
 use Rattle.types.specs.Choice.{if}
 use Rattle.types.specs.Refusal.{amount}
-use Rattle.types.specs.Answer.{Answer, accepted, refused, refusal, then, guarded}
+use Rattle.types.specs.Answer.{Answer, accepted, refused, paper_by, then, guarded}
 use Rattle.numbers.specs.Integer.{unsigned_value, signed_value}
-use Rattle.numbers.specs.declared.reading.ByteRead.{ByteRead}
-use Rattle.numbers.specs.declared.reading.ByteRead.TheVariants as b
-use Rattle.numbers.specs.declared.reading.SliceRead.{SliceRead}
-use Rattle.numbers.specs.declared.reading.SliceRead.TheVariants as s
-use Rattle.numbers.specs.declared.reading.WordRead.{WordRead}
-use Rattle.numbers.specs.declared.reading.WordRead.TheVariants as w
-use Rattle.numbers.specs.declared.reading.UnsignedRead.{UnsignedRead}
-use Rattle.numbers.specs.declared.reading.UnsignedRead.TheVariants as u
-use Rattle.numbers.specs.declared.integer.SignedRead.{SignedRead}
-use Rattle.numbers.specs.declared.integer.SignedRead.TheVariants as i
+use Rattle.types.specs.declared.refusal.Refusal.{Refusal}
+use Rattle.numbers.specs.declared.reading.Slice.{Slice}
+use Rattle.numbers.specs.declared.reading.View.{View}
 
 -- the byte at a place; where it is missing, 3 carries the buffer's end
 unfoldable pub byte_from : List ℕ → ℕ → Answer ℕ
@@ -70,22 +63,18 @@ unsigned_from n xs place = then (content_from n xs place) (λ p next. accepted (
 unfoldable pub signed_from : ℕ → List ℕ → ℕ → Answer ℤ
 signed_from n xs place = then (content_from n xs place) (λ p next. accepted (signed_value (bytes_in xs p)) next)
 
-abbrev pub paper_byte : ByteRead → Answer ℕ
-paper_byte (b.Byte x next) = accepted x next
-paper_byte (b.Refused r) = refusal r
+-- where a part of the program lies, on paper
+abbrev pub lies_at : Slice → Part
+lies_at s = part_at s.start s.len
 
-abbrev pub paper_slice : SliceRead → Answer Part
-paper_slice (s.Slice start size next) = accepted (part_at start size) next
-paper_slice (s.Refused r) = refusal r
+abbrev pub paper_slice : Result (Slice × ℕ) Refusal → Answer Part
+paper_slice = paper_by lies_at
 
-abbrev pub paper_word : WordRead → Answer ℕ
-paper_word (w.Word x next) = accepted x next
-paper_word (w.Refused r) = refusal r
+-- where a part that is handed over lies
+abbrev pub paper_part : Result (View × ℕ) Refusal → Answer Part
+paper_part = paper_by (λ v. lies_at v.slice)
 
-abbrev pub paper_unsigned : UnsignedRead → Answer ℕ
-paper_unsigned (u.Unsigned x next) = accepted x next
-paper_unsigned (u.Refused r) = refusal r
-
-abbrev pub paper_signed : SignedRead → Answer ℤ
-paper_signed (i.Signed x next) = accepted x next
-paper_signed (i.Refused r) = refusal r
+-- the bytes that are handed over, none with a refusal
+abbrev pub handed_over : Result (View × ℕ) Refusal → List ℕ
+handed_over (Ok read) = read.0.bytes.now
+handed_over (Err r) = []

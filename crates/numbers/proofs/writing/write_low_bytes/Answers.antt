@@ -1,23 +1,36 @@
--- `numbers::write_low_bytes` meets its contract: where there is room, the low bytes are put.
+-- `numbers::write_low_bytes` meets its contract. The loop's invariant: the last bytes are written, and the rest of the number is what stands above them.
 -- Assumes nothing.
-use mathlib.Core.Path.{◌≡◌, sym}
-use Rattle.types.specs.Answer.{accepted}
-use Rattle.types.specs.Writing.{can, write_answer, writing}
-use Rattle.numbers.proofs.Inside.{write_room}
+use native.Mathlib.Omega.{arith}
+use mathlib.Core.Path.{◌≡◌, ap, ◌∙◌, sym}
+use Prim.Native.Nat.{ℕ, ◌+◌, ◌-◌, ◌/◌}
+use native.Mathlib.Nat.{div-one}
+use lib.ListN.{drop}
+use Rattle.types.specs.Writing.{can}
+use Rattle.numbers.proofs.Inside.{room_inside}
 use Rattle.numbers.proofs.Wrote.{accepted_stored}
-use Rattle.numbers.proofs.Low.{low_bytes_length}
+use Rattle.numbers.proofs.Low.{low_bytes_length, rest_more}
+use Rattle.numbers.proofs.Over.{none_written, byte_written, all_written}
 use Rattle.numbers.proofs.writing.write_low_bytes.Goals as goal
 
-pub put-requires : goal.put-requires
-put-requires c =
-    let answered : (let a = c.args in write_answer 0 can a.count a.buf.now a.place ≡ accepted tt c.in-To.next) = sym c.in-To.ensures in
-    let a = c.args in (rw answered at (write_room 0 can a.count a.buf.now a.place)).1
+pub loop-i-init : goal.loop-i-init
+loop-i-init c =
+    let a = c.args in
+    let e : a.count - a.count ≡ 0 = omega arith in
+    (rw e (sym (div-one a.value)), rw e (none_written a.buf.now (a.place + a.count)))
 
-pub returns-in-To : goal.returns-in-To
-returns-in-To c =
-    let answered : (let a = c.args in write_answer 0 can a.count a.buf.now a.place ≡ accepted tt c.in-To.next) = sym c.in-To.ensures in
-    accepted_stored 0 can _ _ _ _ _ _ answered (low_bytes_length _ _) c.put.ensures
+pub loop-i-preserved : goal.loop-i-preserved
+loop-i-preserved c =
+    let a = c.args in
+    let l = c.loop-i in
+    let h = room_inside 0 can _ _ _ _ c.in_ok-next.ensures in
+    let k : ℕ = a.count - l.i in
+    let e : a.place + l.i ≡ a.place + (l.i - 1) + 1 = omega arith in
+    let f : a.count - (l.i - 1) ≡ k + 1 = omega arith in
+    (rw f (ap (λ (x : ℕ). x / 256) l.invariant.0 ∙ rest_more k a.value), rw (l.invariant.1, l.invariant.0, f) (byte_written a.buf.now (a.place + l.i) (a.place + (l.i - 1)) k a.value (drop (a.place + a.count) a.buf.now) e (omega arith)))
 
-pub returns-in-Refused : goal.returns-in-Refused
-unfolding writing
-returns-in-Refused c = simp (low_bytes_length, sym c.in-Refused.ensures)
+pub returns : goal.returns
+returns c =
+    let a = c.args in
+    let e : c.loop-i.i ≡ 0 = omega arith in
+    let f : a.count - 0 ≡ a.count = omega arith in
+    accepted_stored 0 can _ _ _ _ _ _ (sym c.in_ok-next.ensures) (low_bytes_length _ _) (rw (c.loop-i.invariant.1, e, f) (all_written a.buf.now a.place a.count a.value))
