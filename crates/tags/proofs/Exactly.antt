@@ -81,19 +81,7 @@ value_found low xs place l =
     (λ f. subst (λ (x : ℕ). ValueOr x xs place (then (byte_from xs place) (λ b next. if (eqb b 254) (fixed_from 2 xs next) (if (eqb b 255) (fixed_from 4 xs next) (accepted b next))))) (sym (eqb-true low 5 f)) (long_found xs place))
     (λ f. let g : low ≡ 5 → ⊥ = eqb-false low 5 f in told_by_none xs place (none (omega (arith, ltb-false low 5 e))) l))
 
--- where the number stands by the first byte as a whole: in the field below 248, and from there on behind it
 module _ (first : ℕ) (xs : List ℕ) (place : ℕ) where
-  pub told_in_field : first < 248 → number_told first xs place ≡ accepted (number_field first) place
-  told_in_field h =
-      either (λ (a : Answer ℕ). a ≡ accepted (number_field first) place) (eqb (class_bit first) 0) (λ e. refl) (λ e.
-      let g : class_bit first ≡ 0 → ⊥ = eqb-false _ _ e in
-      either (λ (a : Answer ℕ). a ≡ accepted (number_field first) place) (ltb (number_field first) 15) (λ f. refl) (λ f. absurd (omega (arith, ltb-false (number_field first) 15 f))))
-
-  pub told_behind : 248 ≤ first → first < 256 → number_told first xs place ≡ byte_from xs place
-  told_behind h k =
-      either (λ (a : Answer ℕ). a ≡ byte_from xs place) (eqb (class_bit first) 0) (λ e. absurd (omega (arith, eqb-true (class_bit first) 0 e))) (λ e.
-      either (λ (a : Answer ℕ). a ≡ byte_from xs place) (ltb (number_field first) 15) (λ f. absurd (omega (arith, ltb-true (number_field first) 15 f))) (λ f. refl))
-
   -- a number of application class is the field of a byte
   pub field_wide : (n next : ℕ) → number_told first xs place ≡ accepted n next → first < 256 → FieldWide first n
   field_wide n next t h e =

@@ -1,6 +1,5 @@
 pub mod BySize
 pub mod Held
-pub mod OneByte
 pub mod Begun
 pub mod ByParts
 pub mod Exactly

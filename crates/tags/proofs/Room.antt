@@ -16,8 +16,8 @@ use Rattle.tags.specs.Writing.{tag_bytes, tag_value_allowed, writable_tag}
 use Rattle.tags.specs.Form.{StandsFor}
 use Rattle.tags.specs.Item.{item_bytes, item_to, item_lent_to, number_under}
 use Rattle.tags.specs.Room.{Ordinary, TagTaken, ReadsAs, ReadsUnsigned, ReadsSigned, IsIntegerItem, OnlyShortest, ByRoom}
-use Rattle.tags.specs.declared.integer.ContextTag.{ContextTag}
-use Rattle.tags.specs.declared.integer.ContextTag.TheVariants as c
+use Rattle.std.specs.declared.option.Option.{Option}
+use Rattle.std.specs.declared.option.Option.TheVariants.{Some, None}
 use Rattle.tags.proofs.Range.{InRange}
 use Rattle.tags.proofs.Shortest.{tag_only_shortest, tag_length_rises}
 use Rattle.tags.proofs.ByRoom.{written_by_room}
@@ -114,6 +114,6 @@ module _ (n : Number) (o : Ordinary n) (xs : List ℕ) (place : ℕ) (small : le
   signed_exact_room z h = exact_room signed_kind n o z (signed_bytes z) (signed_shortest z h) xs place small inside
 
 -- each tag that an integer writer takes is an ordinary one
-pub taken_ordinary : (kind : ℕ) → kind < 16 → (t : ContextTag) → TagTaken t → Ordinary (number_under kind t)
-taken_ordinary kind h c.Application b = h
-taken_ordinary kind h (c.Number n) b = b
+pub taken_ordinary : (kind : ℕ) → kind < 16 → (t : Option ℕ) → TagTaken t → Ordinary (number_under kind t)
+taken_ordinary kind h None b = h
+taken_ordinary kind h (Some n) b = b

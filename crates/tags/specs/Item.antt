@@ -1,11 +1,9 @@
 -- What is written under one tag: its header and then its content, as one write.
 -- Assumes nothing.
-use Rattle.std.specs.Prelude.{ℕ, Bool, true, false, List, ◌++◌, length}
+use Rattle.std.specs.Prelude.{ℕ, Bool, true, false, List, ◌++◌, length, Option, Some, None}
 use Rattle.types.specs.Tag.{Number, application, context, tag}
 use Rattle.types.specs.Writing.{Left, writing}
 use Rattle.tags.specs.Writing.{tag_bytes, writable_tag}
-use Rattle.tags.specs.declared.integer.ContextTag.{ContextTag}
-use Rattle.tags.specs.declared.integer.ContextTag.TheVariants as c
 
 -- a tag whose value is its content's length, and the content
 abbrev pub item_bytes : Number → List ℕ → List ℕ
@@ -20,9 +18,9 @@ unfoldable pub item_to : Number → List ℕ → List ℕ → ℕ → Left
 item_to n content xs place = item_lent_to 0 n content xs place
 
 -- the number that an integer is written under: that of its kind, or the context number
-abbrev pub number_under : ℕ → ContextTag → Number
-number_under kind c.Application = application kind
-number_under kind (c.Number n) = context n
+abbrev pub number_under : ℕ → Option ℕ → Number
+number_under kind None = application kind
+number_under kind (Some n) = context n
 
 -- a Boolean's content under a context tag (20.2.3)
 abbrev pub boolean_byte : Bool → ℕ

@@ -1,16 +1,15 @@
 -- Reading a tag (ASHRAE 135, 20.2.1, as 01 restates it), and what is expected of one.
 -- Assumes nothing.
-use Rattle.std.specs.Prelude.{ℕ, Bool, false, List, ltb, eqb}
+use Rattle.std.specs.Prelude.{ℕ, Bool, false, List, ltb, eqb, Result}
 use Rattle.types.specs.Choice.{if}
 use Rattle.types.specs.Tag.{Number, application, context, opening, closing, class_of, number_in, Tag, tag, number_of, tag_of}
 use Rattle.types.specs.Refusal.{tag_found}
-use Rattle.types.specs.Answer.{Answer, accepted, refused, refusal, then, Outcome, passed, stopped}
+use Rattle.types.specs.Answer.{Answer, accepted, refused, paper_by, then, Outcome, passed, stopped}
 use Rattle.numbers.specs.Reading.{byte_from, fixed_from}
 use Rattle.tags.specs.Header.{class_bit, number_field, low_bits}
-use Rattle.tags.specs.declared.reading.TagRead.{TagRead}
-use Rattle.tags.specs.declared.reading.TagRead.TheVariants as r
-use Rattle.tags.specs.declared.reading.NumberRead.{NumberRead}
-use Rattle.tags.specs.declared.reading.NumberRead.TheVariants as n
+use Rattle.types.specs.declared.tag.Tag as program
+use Rattle.types.specs.declared.tag.TagNumber.{TagNumber}
+use Rattle.types.specs.declared.refusal.Refusal.{Refusal}
 
 -- the number that the first byte tells: its field, but in context class a field of 15 says that the next byte is the number (20.2.1.2)
 abbrev pub number_told : (first : ℕ) → List ℕ → ℕ → Answer ℕ
@@ -74,10 +73,8 @@ expected_number expected t = if (same_number t.number expected) passed (stopped 
 unfoldable pub expected_value : ℕ → Tag → Outcome
 expected_value expected t = if (eqb t.value expected) passed (stopped 5 (tag_found t))
 
-abbrev pub paper_tag : TagRead → Answer Tag
-paper_tag (r.Read t next) = accepted (tag_of t) next
-paper_tag (r.Refused x) = refusal x
+abbrev pub paper_tag : Result (program.Tag × ℕ) Refusal → Answer Tag
+paper_tag = paper_by tag_of
 
-abbrev pub paper_number : NumberRead → Answer Number
-paper_number (n.Number k next) = accepted (number_of k) next
-paper_number (n.Refused x) = refusal x
+abbrev pub paper_number : Result (TagNumber × ℕ) Refusal → Answer Number
+paper_number = paper_by number_of

@@ -1,6 +1,6 @@
 -- No room means no room (document 02, K14): which byte strings read as an integer under a tag, and what a write is to answer by the room alone.
 -- Assumes nothing.
-use Rattle.std.specs.Prelude.{ℕ, ◌+◌, ◌-◌, ◌<◌, ◌≤◌, ◌≡◌, ◌↔◌, List, ◌++◌, length, ℤ}
+use Rattle.std.specs.Prelude.{ℕ, ◌+◌, ◌-◌, ◌<◌, ◌≤◌, ◌≡◌, ◌↔◌, List, ◌++◌, length, ℤ, Option, Some, None}
 use Rattle.types.specs.Tag.{Number, application, context, opening, closing, Tag, tag}
 use Rattle.types.specs.Refusal.{amount}
 use Rattle.types.specs.Answer.{Answer, accepted, refused}
@@ -10,8 +10,6 @@ use Rattle.numbers.specs.Integer.{Bytes}
 use Rattle.numbers.specs.Reading.{unsigned_from, signed_from}
 use Rattle.tags.specs.Reading.{tag_from}
 use Rattle.tags.specs.Form.{StandsFor}
-use Rattle.tags.specs.declared.integer.ContextTag.{ContextTag}
-use Rattle.tags.specs.declared.integer.ContextTag.TheVariants as c
 
 -- the class and number of an ordinary tag, as a byte or two carry them: application 0 to 15, of which integers take 2, 3 and 9, and context 0 to 255
 abbrev pub Ordinary : Number → Type 0
@@ -21,9 +19,9 @@ Ordinary (opening n) = ⊥
 Ordinary (closing n) = ⊥
 
 -- a tag that an integer writer takes: the application tag of its kind, or a context number, which is a byte
-abbrev pub TagTaken : ContextTag → Type 0
-TagTaken c.Application = Unit {0}
-TagTaken (c.Number n) = n < 256
+abbrev pub TagTaken : Option ℕ → Type 0
+TagTaken None = Unit {0}
+TagTaken (Some n) = n < 256
 
 -- a string of bytes that reads as a class and number and an integer, by 01's rules for tags (20.2.1) and integers: the tag at its start has that class and number, its value is a length, and the integer of that length ends at the string's end
 pub record ReadsAs {A : Type 0} (integer_from : ℕ → List ℕ → ℕ → Answer A) (n : Number) (v : A) (string : List ℕ) : Type 0 where

@@ -1,32 +1,102 @@
 // A tag's bytes, built apart: at most seven, held with their number.
-ghost use Rattle.std.specs.Prelude.{◌≡◌, [], ◌∷◌, ◌+◌, ◌<◌, ◌≤◌};
+ghost use Rattle.std.specs.Prelude.{◌≡◌, List, ℕ, [], ◌∷◌, ◌++◌, ◌<◌, ◌≤◌, length, take};
 ghost use Rattle.types.specs.Tag.{tag_of};
-ghost use Rattle.tags.specs.Held.{holding, pushed, pushes};
 ghost use Rattle.tags.specs.Writing.{low_bits_for, context_bytes, tag_value_bytes, tag_bytes};
 
+use std::marker::Model;
 use types::{Tag, TagNumber};
 
-// The bytes, of which the first `len` count.
+// The bytes, of which the first `len` count. (Document 01 asks for an array with a length: "built apart, at most seven bytes held with their number".)
 #[derive(Drop)]
 pub(crate) struct Header {
-    pub bytes: [u8; 7],
-    pub len: usize,
+    bytes: [u8; 7],
+    len: usize,
+}
+
+impl Model for Header {
+    ghost Value = { List ℕ };
+
+    ghost view = { λ h. take h.len h.bytes };
+
+    ghost invariant = { λ h. h.len ≤ 7 };
+}
+
+impl Header {
+    // A header of one byte.
+    fn one_byte(byte: u8) -> Self
+        ensures { result ≡ byte ∷ [] }
+    {
+        Header {
+            bytes: [byte, 0, 0, 0, 0, 0, 0],
+            len: 1,
+        }
+    }
+
+    // The header with one byte more.
+    fn push(mut self, byte: u8) -> Self
+        requires { length self < 7 }
+        ensures { result ≡ self ++ byte ∷ [] }
+    {
+        self.bytes[self.len] = byte;
+        self.len += 1;
+        self
+    }
+
+    // The header of a context number, in the field or in a second byte, with the low bits.
+    fn context(number: u8, low: u8) -> Self
+        requires { low < 8 }
+        ensures { result ≡ context_bytes number low }
+    {
+        if number < 15 {
+            Header::one_byte(number * 16 + 8 + low)
+        } else {
+            Header::one_byte(248 + low).push(number)
+        }
+    }
+
+    // The header with the bytes that follow for a value.
+    fn with_value(self, value: u32) -> Self
+        requires { length self < 3 }
+        ensures { result ≡ self ++ tag_value_bytes value }
+    {
+        if value < 5 {
+            return self;
+        }
+        if value < 254 {
+            return self.push(value as u8);
+        }
+        let [fourth, third, second, low] = value.to_be_bytes();
+        if value < 65536 {
+            return self.push(254).push(second).push(low);
+        }
+        self.push(255)
+            .push(fourth)
+            .push(third)
+            .push(second)
+            .push(low)
+    }
+
+    // Its bytes.
+    pub(crate) fn as_slice(&self) -> &[u8]
+        ensures { result.now ≡ self.now }
+    {
+        &self.bytes[..self.len]
+    }
 }
 
 // Builds the bytes of a tag.
+#[tactic(auto, unfolding(crate::specs::Writing::tag_bytes))]
 pub(crate) fn built(tag: Tag) -> Header
-    ensures { result ≡ holding (tag_bytes (tag_of tag)) }
+    ensures { result ≡ tag_bytes (tag_of tag) }
 {
-    let value = tag.value;
-    let number = tag.number;
-    match number {
-        TagNumber::Application(name) => with_value(
-            one_byte(name.number() * 16 + low(value)),
-            value,
-        ),
-        TagNumber::ContextSpecific(n) => with_value(context(n, low(value)), value),
-        TagNumber::ContextSpecificOpening(n) => context(n, 6),
-        TagNumber::ContextSpecificClosing(n) => context(n, 7),
+    let low = low(tag.value);
+    match tag.number {
+        TagNumber::Application(name) => {
+            Header::one_byte(name.number() * 16 + low).with_value(tag.value)
+        }
+        TagNumber::ContextSpecific(n) => Header::context(n, low).with_value(tag.value),
+        TagNumber::ContextSpecificOpening(n) => Header::context(n, 6),
+        TagNumber::ContextSpecificClosing(n) => Header::context(n, 7),
     }
 }
 
@@ -36,65 +106,4 @@ fn low(value: u32) -> u8
     ensures upper_bound { result < 6 }
 {
     if value < 5 { value as u8 } else { 5 }
-}
-
-// The header with one byte more.
-fn push(header: Header, byte: u8) -> Header
-    requires { header.len < 7 }
-    ensures value { result ≡ pushed header byte }
-    ensures len_value { result.len ≡ header.len + 1 }
-{
-    let len = header.len;
-    let mut more = header;
-    more.bytes[len] = byte;
-    more.len = len + 1;
-    more
-}
-
-// A header of one byte.
-fn one_byte(byte: u8) -> Header
-    ensures value { result ≡ holding (byte ∷ []) }
-    ensures len_value { result.len ≡ 1 }
-{
-    Header {
-        bytes: [byte, 0, 0, 0, 0, 0, 0],
-        len: 1,
-    }
-}
-
-// The header of a context number, in the field or in a second byte, with the low bits.
-fn context(number: u8, low: u8) -> Header
-    requires { low < 8 }
-    ensures value { result ≡ holding (context_bytes number low) }
-    ensures len_bound { result.len < 3 }
-{
-    if number < 15 {
-        one_byte(number * 16 + 8 + low)
-    } else {
-        push(one_byte(248 + low), number)
-    }
-}
-
-// The header with the bytes that follow for a value.
-fn with_value(header: Header, value: u32) -> Header
-    requires { header.len < 3 }
-    ensures { result ≡ pushes header (tag_value_bytes value) }
-{
-    if value < 5 {
-        return header;
-    }
-    if value < 254 {
-        return push(header, value as u8);
-    }
-    let low = (value % 256) as u8;
-    let second = (value / 256 % 256) as u8;
-    if value < 65536 {
-        return push(push(push(header, 254), second), low);
-    }
-    let third = (value / 65536 % 256) as u8;
-    let fourth = (value / 16777216 % 256) as u8;
-    push(
-        push(push(push(push(header, 255), fourth), third), second),
-        low,
-    )
 }

@@ -7,9 +7,10 @@ ghost use Rattle.tags.specs.Held.{item_before};
 ghost use Rattle.tags.specs.Item.{item_to, item_lent_to};
 
 use crate::writing::begin;
-use types::{Refusal, Tag, TagNumber, Written};
+use types::{Refusal, Tag, TagNumber};
 
 // Writes an item: the tag of that class and number, then `head` in `count` bytes, most significant first, then the lent bytes.
+#[tactic(auto, unfolding(crate::specs::Item::item_lent_to, types::specs::Writing::writing, types::specs::Writing::write_answer))]
 pub fn encode_item(
     number: TagNumber,
     head: u64,
@@ -17,33 +18,30 @@ pub fn encode_item(
     lent: &[u8],
     buf: &mut [u8],
     place: usize,
-) -> Written
+) -> Result<usize, Refusal>
     ensures { left (paper_written result) buf.new ≡ item_lent_to (length lent.now) (number_of number) (low_bytes count head ++ lent.now) buf.old place }
 {
     if 65535 < buf.len() {
-        return Written::Refused(Refusal::BufferTooLong(buf.len()));
+        return Err(Refusal::BufferTooLong(buf.len()));
     }
     if 65535 < lent.len() {
-        return Written::Refused(Refusal::BufferTooLong(lent.len()));
+        return Err(Refusal::BufferTooLong(lent.len()));
     }
-    match begin_item(number, head, count, lent.len(), buf, place) {
-        Written::To(next) => {
-            // Room was tested for the lent bytes too, so they are written, and end there.
-            numbers::extend_from_slice(lent, &mut buf[next..], 0);
-            Written::To(next + lent.len())
-        }
-        Written::Refused(r) => Written::Refused(r),
-    }
+    let next = begin_item(number, head, count, lent.len(), buf, place)?;
+    // Room was tested for the lent bytes too, so they are written. (Document 01 asks that the rest of the buffer be lent on.)
+    let len = numbers::extend_from_slice(lent, &mut buf[next..], 0)?;
+    Ok(next + len)
 }
 
 // Writes an item of which nothing is lent: the tag of that class and number, then `value` in `count` bytes, most significant first.
+#[tactic(auto, using(crate::proofs::ByParts::begun_whole))]
 pub fn encode_low_bytes(
     number: TagNumber,
     value: u64,
     count: u8,
     buf: &mut [u8],
     place: usize,
-) -> Written
+) -> Result<usize, Refusal>
     ensures { left (paper_written result) buf.new ≡ item_to (number_of number) (low_bytes count value) buf.old place }
 {
     begin_item(number, value, count, 0, buf, place)
@@ -57,21 +55,13 @@ pub(crate) fn begin_item(
     more: usize,
     buf: &mut [u8],
     place: usize,
-) -> Written
+) -> Result<usize, Refusal>
     requires { more ≤ 65535 }
     ensures { left (paper_written result) buf.new ≡ item_before more (number_of number) (low_bytes count head) buf.old place }
 {
-    let len = count as usize + more;
-    let tag = Tag {
-        number,
-        value: len as u32,
-    };
-    match begin(tag, len as u32, buf, place) {
-        Written::To(next) => {
-            // Room was tested for these bytes too, so they are written, and end there.
-            numbers::write_low_bytes(head, count as usize, &mut buf[next..], 0);
-            Written::To(next + count as usize)
-        }
-        Written::Refused(r) => Written::Refused(r),
-    }
+    let value = u32::from(count) + more as u32;
+    let next = begin(Tag { number, value }, value, buf, place)?;
+    // Room was tested for these bytes too, so they are written.
+    let written = numbers::write_low_bytes(head, count as usize, &mut buf[next..], 0)?;
+    Ok(next + written)
 }

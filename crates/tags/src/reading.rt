@@ -12,113 +12,96 @@
 //    value     0 to 253 in one byte; 254 and two bytes; 255 and four bytes, most significant first
 ghost use Rattle.std.specs.Prelude.{◌≡◌, ◌≤◌, length};
 ghost use Rattle.types.specs.Tag.{number_of, tag_of};
-ghost use Rattle.types.specs.Answer.{paper_outcome};
-ghost use Rattle.numbers.specs.Reading.{paper_byte, paper_word};
+ghost use Rattle.types.specs.Answer.{paper_outcome, paper_read};
 ghost use Rattle.tags.specs.Held.{FieldWide};
-ghost use Rattle.tags.specs.Reading.{number_told, context_number, numbered, number_from, tag_value_from, tag_after, tag_from, expected_from, same_number, expected_number, expected_value, paper_number, paper_tag};
+ghost use Rattle.tags.specs.Reading.{number_told, context_number, numbered, number_from, tag_value_from, tag_after, tag_from, expected_from, expected_number, expected_value, paper_number, paper_tag};
 
-use numbers::{ByteRead, WordRead};
-use types::{ApplicationTagNumber, Outcome, Refusal, Tag, TagNumber};
+use types::{ApplicationTagNumber, Refusal, Tag, TagNumber};
 
-// A tag and the place after it.
-#[derive(Clone, Copy)]
-pub enum TagRead {
-    Read(Tag, usize),
-    Refused(Refusal),
-}
-
-// A tag's class and number, and the place after them.
-#[derive(Drop)]
-enum NumberRead {
-    Number(TagNumber, usize),
-    Refused(Refusal),
-}
-
-// Reads the tag at a place.
-pub fn decode(buf: &[u8], place: usize) -> TagRead
+// Reads the tag at a place, and the place after it.
+#[tactic(auto, using(numbers::proofs::Found::byte_found), unfolding(crate::specs::Reading::tag_from))]
+#[inline(always)]
+pub fn decode(buf: &[u8], place: usize) -> Result<(Tag, usize), Refusal>
     ensures { paper_tag result ≡ tag_from buf.now place }
 {
-    match numbers::read_byte(buf, place) {
-        ByteRead::Byte(first, next) => tag_after(first, buf, next),
-        ByteRead::Refused(r) => TagRead::Refused(r),
-    }
+    let (first, next) = numbers::read_byte(buf, place)?;
+    tag_after(first, buf, next)
 }
 
 // Reads the tag at a place, which is to have the class and number expected.
-pub fn decode_expected(expected: TagNumber, buf: &[u8], place: usize) -> TagRead
+#[tactic(auto, unfolding(crate::specs::Reading::expected_from, crate::specs::Reading::expected_number))]
+pub fn decode_expected(
+    expected: TagNumber,
+    buf: &[u8],
+    place: usize,
+) -> Result<(Tag, usize), Refusal>
     ensures { paper_tag result ≡ expected_from (number_of expected) buf.now place }
 {
-    match decode(buf, place) {
-        TagRead::Read(tag, next) => {
-            let number = tag.number;
-            if same_number(number, expected) {
-                TagRead::Read(tag, next)
-            } else {
-                TagRead::Refused(Refusal::OtherTagNumber(tag))
-            }
-        }
-        TagRead::Refused(r) => TagRead::Refused(r),
-    }
+    let (tag, next) = decode(buf, place)?;
+    expect_number(tag, expected)?;
+    Ok((tag, next))
 }
 
 // Whether a tag has the value expected.
-pub fn expect_value(tag: Tag, value: u32) -> Outcome
+#[tactic(auto, unfolding(crate::specs::Reading::expected_value))]
+pub fn expect_value(tag: Tag, value: u32) -> Result<(), Refusal>
     ensures { paper_outcome result ≡ expected_value value (tag_of tag) }
 {
     if tag.value == value {
-        Outcome::Passed
+        Ok(())
     } else {
-        Outcome::Refused(Refusal::OtherTagValue(tag))
+        Err(Refusal::OtherTagValue(tag))
     }
 }
 
 // Whether a tag has the class and number expected.
-pub fn expect_number(tag: Tag, number: TagNumber) -> Outcome
+#[tactic(auto, unfolding(crate::specs::Reading::expected_number))]
+#[inline(always)]
+pub fn expect_number(tag: Tag, number: TagNumber) -> Result<(), Refusal>
     ensures { paper_outcome result ≡ expected_number (number_of number) (tag_of tag) }
 {
-    let found = tag.number;
-    if same_number(found, number) {
-        Outcome::Passed
+    if tag.number == number {
+        Ok(())
     } else {
-        Outcome::Refused(Refusal::OtherTagNumber(tag))
+        Err(Refusal::OtherTagNumber(tag))
     }
 }
 
 // Reads on the tag whose first byte, before this place, is known.
-fn tag_after(first: u8, buf: &[u8], place: usize) -> TagRead
+#[tactic(auto, using(crate::proofs::Exactly::number_ends), unfolding(crate::specs::Reading::tag_after))]
+#[inline(always)]
+fn tag_after(first: u8, buf: &[u8], place: usize) -> Result<(Tag, usize), Refusal>
     requires { (length buf.now ≤ 65535) × (place ≤ length buf.now) }
     ensures { paper_tag result ≡ tag_after first buf.now place }
 {
-    match number_after(first, buf, place) {
-        NumberRead::Number(number, after) => match value_after(first % 8, buf, after) {
-            WordRead::Word(value, next) => TagRead::Read(Tag { number, value }, next),
-            WordRead::Refused(r) => TagRead::Refused(r),
-        },
-        NumberRead::Refused(r) => TagRead::Refused(r),
-    }
+    let (number, after) = number_after(first, buf, place)?;
+    let (value, next) = value_after(first % 8, buf, after)?;
+    Ok((Tag { number, value }, next))
 }
 
 // Reads on the class and number that a tag's first byte tells.
-fn number_after(first: u8, buf: &[u8], place: usize) -> NumberRead
+#[tactic(auto, using(crate::proofs::Exactly::field_wide), unfolding(crate::specs::Reading::number_from))]
+#[inline(always)]
+fn number_after(first: u8, buf: &[u8], place: usize) -> Result<(TagNumber, usize), Refusal>
     ensures { paper_number result ≡ number_from first buf.now place }
 {
-    match number_told(first, buf, place) {
-        ByteRead::Byte(number, next) => NumberRead::Number(numbered(first, number), next),
-        ByteRead::Refused(r) => NumberRead::Refused(r),
-    }
+    let (number, next) = number_told(first, buf, place)?;
+    Ok((numbered(first, number), next))
 }
 
 // Reads on the number that a tag's first byte tells: it is the byte at this place where the first is of context class and its field 15.
-fn number_told(first: u8, buf: &[u8], place: usize) -> ByteRead
-    ensures { paper_byte result ≡ number_told first buf.now place }
+#[inline(always)]
+fn number_told(first: u8, buf: &[u8], place: usize) -> Result<(u8, usize), Refusal>
+    ensures { paper_read result ≡ number_told first buf.now place }
 {
     if first < 248 {
-        return ByteRead::Byte(first / 16, place);
+        return Ok((first / 16, place));
     }
     numbers::read_byte(buf, place)
 }
 
 // The class and number of a tag whose first byte and number are known.
+#[inline(always)]
 fn numbered(first: u8, number: u8) -> TagNumber
     requires { FieldWide first number }
     ensures { number_of result ≡ numbered first number }
@@ -130,50 +113,37 @@ fn numbered(first: u8, number: u8) -> TagNumber
 }
 
 // The class and number of a tag in context class: low bits 6 open and 7 close a block.
+#[inline(always)]
 fn context_number(low: u8, number: u8) -> TagNumber
     ensures { number_of result ≡ context_number low number }
 {
-    if low == 6 {
-        return TagNumber::ContextSpecificOpening(number);
+    match low {
+        6 => TagNumber::ContextSpecificOpening(number),
+        7 => TagNumber::ContextSpecificClosing(number),
+        _ => TagNumber::ContextSpecific(number),
     }
-    if low == 7 {
-        return TagNumber::ContextSpecificClosing(number);
-    }
-    TagNumber::ContextSpecific(number)
 }
 
 // Reads on the value that a tag's low bits tell: it is in the bytes from this place on where it is long.
-fn value_after(low: u8, buf: &[u8], place: usize) -> WordRead
+#[tactic(auto, unfolding(crate::specs::Reading::tag_value_from, numbers::specs::Reading::byte_from))]
+#[inline(always)]
+fn value_after(low: u8, buf: &[u8], place: usize) -> Result<(u32, usize), Refusal>
     requires { (length buf.now ≤ 65535) × (place ≤ length buf.now) }
-    ensures { paper_word result ≡ tag_value_from low buf.now place }
+    ensures { paper_read result ≡ tag_value_from low buf.now place }
 {
     if low < 5 {
-        return WordRead::Word(low as u32, place);
+        return Ok((u32::from(low), place));
     }
     if low != 5 {
-        return WordRead::Word(0, place);
+        return Ok((0, place));
     }
-    if buf.len() <= place {
-        return WordRead::Refused(Refusal::BytesRunOut(buf.len()));
-    }
-    let value = buf[place];
+    let Some(&byte) = buf.get(place) else {
+        return Err(Refusal::BytesRunOut(buf.len()));
+    };
     let next = place + 1;
-    if value < 254 {
-        return WordRead::Word(value as u32, next);
-    }
-    if value == 254 {
-        return numbers::read_two_bytes(buf, next);
-    }
-    numbers::read_four_bytes(buf, next)
-}
-
-// Whether two tags have one class and number.
-fn same_number(one: TagNumber, other: TagNumber) -> bool
-    ensures { result ≡ same_number (number_of one) (number_of other) }
-{
-    if one.class() == other.class() {
-        one.number() == other.number()
-    } else {
-        false
+    match byte {
+        254 => numbers::read_two_bytes(buf, next),
+        255 => numbers::read_four_bytes(buf, next),
+        value => Ok((u32::from(value), next)),
     }
 }

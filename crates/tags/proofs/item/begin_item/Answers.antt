@@ -1,33 +1,48 @@
--- `tags::begin_item` meets its contract, by the law that a header and what is written into the rest are written at once.
+-- `tags::begin_item` meets its contract: where `begin` left room for them, the first bytes are written into the rest of the buffer, and header and bytes are one write.
 -- Assumes nothing.
+use mathlib.Core.Path.{◌∙◌, ap, sym}
 use native.Mathlib.Omega.{arith}
+use Rattle.std.proofs.lemmas.Result.{err_from_is_err_and}
+use Rattle.types.specs.Tag.{number_of}
 use Rattle.numbers.specs.Integer.{low_bytes}
 use Rattle.numbers.proofs.Low.{low_bytes_length}
-use Rattle.tags.proofs.ByParts.{RoomFor, first_room, first_written, first_refused}
+use Rattle.tags.proofs.ByParts.{behind, first_room, rest_ends, rest_not_refused, rest_written, before_by_parts}
 use Rattle.tags.proofs.item.begin_item.Goals as goal
 
+pub returns-in_err-next : goal.returns-in_err-next
+returns-in_err-next c =
+    let a = c.args in
+    let p = err_from_is_err_and c.from_residual.result c.from_residual.ensures.1 in
+    rw (p.1, p.2)
+    (ap (behind (low_bytes a.count a.head)) c.in_err-next.ensures
+    ∙ sym (before_by_parts a.more _ (number_of a.number) (low_bytes a.count a.head) a.buf.now a.place (omega (arith, low_bytes_length a.count a.head))))
+
 pub slice_bounds-write_low_bytes-count : goal.slice_bounds-write_low_bytes-count
-slice_bounds-write_low_bytes-count c =
-    let room : RoomFor c.args.count c.begin.new.buf c.in-To.next = let a = c.args in first_room _ (low_bytes a.count a.head) _ _ _ _ (low_bytes_length _ _) _ _ c.begin.ensures _ c.in-To.is in
-    let h = room in omega arith
+slice_bounds-write_low_bytes-count c = let r = first_room _ _ _ _ _ _ c.in_ok-next.ensures in omega arith
 
 pub slice_bounds-write_low_bytes-start : goal.slice_bounds-write_low_bytes-start
-slice_bounds-write_low_bytes-start c =
-    let room : RoomFor c.args.count c.begin.new.buf c.in-To.next = let a = c.args in first_room _ (low_bytes a.count a.head) _ _ _ _ (low_bytes_length _ _) _ _ c.begin.ensures _ c.in-To.is in
-    let h = room in omega arith
+slice_bounds-write_low_bytes-start c = let r = first_room _ _ _ _ _ _ c.in_ok-next.ensures in omega arith
 
-pub slice_bounds-write_low_bytes-end : goal.slice_bounds-write_low_bytes-end
-slice_bounds-write_low_bytes-end c =
-    let room : RoomFor c.args.count c.begin.new.buf c.in-To.next = let a = c.args in first_room _ (low_bytes a.count a.head) _ _ _ _ (low_bytes_length _ _) _ _ c.begin.ensures _ c.in-To.is in
-    let h = room in omega arith
+pub returns-in_err-written : goal.returns-in_err-written
+returns-in_err-written c =
+    let a = c.args in
+    let r = first_room _ _ _ _ _ _ c.in_ok-next.ensures in
+    let l = low_bytes_length a.count a.head in
+    absurd (rest_not_refused 0 (low_bytes a.count a.head) c.begin.new.buf c.in_ok-next.next (omega arith) (omega arith, r.1) _ _ _ c.in_err-written.ensures)
 
 pub overflow_add-result : goal.overflow_add-result
 overflow_add-result c =
-    let room : RoomFor c.args.count c.begin.new.buf c.in-To.next = let a = c.args in first_room _ (low_bytes a.count a.head) _ _ _ _ (low_bytes_length _ _) _ _ c.begin.ensures _ c.in-To.is in
-    let h = room in omega arith
+    let a = c.args in
+    let r = first_room _ _ _ _ _ _ c.in_ok-next.ensures in
+    let l = low_bytes_length a.count a.head in
+    omega (arith, rest_ends 0 (low_bytes a.count a.head) c.begin.new.buf c.in_ok-next.next (omega arith) (omega arith, r.1) _ _ c.in_ok-written.ensures)
 
-pub returns-in-To : goal.returns-in-To
-returns-in-To c = first_written _ _ _ _ _ _ (low_bytes_length _ _) _ _ c.begin.ensures _ c.in-To.is _ _ c.write_low_bytes.ensures
-
-pub returns-in-Refused : goal.returns-in-Refused
-returns-in-Refused c = let a = c.args in first_refused _ (low_bytes a.count a.head) _ _ _ _ (low_bytes_length _ _) _ _ c.begin.ensures _ c.in-Refused.is
+pub returns : goal.returns
+returns c =
+    let a = c.args in
+    let first = low_bytes a.count a.head in
+    let r = first_room _ _ _ _ _ _ c.in_ok-next.ensures in
+    let l = low_bytes_length a.count a.head in
+    rest_written 0 first c.begin.new.buf c.in_ok-next.next (omega arith) (omega arith, r.1) _ _ c.in_ok-written.ensures
+    ∙ ap (behind first) c.in_ok-next.ensures
+    ∙ sym (before_by_parts a.more _ (number_of a.number) first a.buf.now a.place (omega (arith, l)))

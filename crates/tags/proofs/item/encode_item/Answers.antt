@@ -1,53 +1,43 @@
--- `tags::encode_item` meets its contract, by the law that the first bytes and what is written into the rest are written at once.
+-- `tags::encode_item` meets its contract: where `begin_item` left room for them, the lent bytes are written into the rest of the buffer, and first and lent ones are one write.
 -- Assumes nothing.
+use mathlib.Core.Path.{◌∙◌, ap, sym}
 use native.Mathlib.Omega.{arith}
-use mathlib.Core.Path.{◌∙◌}
-use mathlib.Core.List.{◌++◌}
 use lib.ListN.{length}
-use borrow.Author.Tests.{lt-ltb, le-ltb}
-use Rattle.types.specs.Writing.{write_answer, writing}
+use Rattle.std.proofs.lemmas.Result.{err_from_is_err_and}
+use Rattle.types.specs.Tag.{number_of}
 use Rattle.numbers.specs.Integer.{low_bytes}
-use Rattle.tags.specs.Item.{item_lent_to}
-use Rattle.tags.proofs.ByParts.{RoomFor, lent_room, lent_written, lent_refused, item_lent}
+use Rattle.tags.proofs.ByParts.{behind, lent_room, rest_ends, rest_not_refused, rest_written, lent_by_parts}
 use Rattle.tags.proofs.item.encode_item.Goals as goal
 
-pub returns-then-buf-gt65535 : goal.returns-then-buf-gt65535
-unfolding item_lent_to writing write_answer
-returns-then-buf-gt65535 c = simp (lt-ltb _ _ c.if-buf-gt65535.true)
-
-pub returns-then-lent-gt65535 : goal.returns-then-lent-gt65535
-unfolding item_lent_to writing write_answer
-returns-then-lent-gt65535 c = simp (le-ltb _ _ c.if-buf-gt65535.false, lt-ltb _ _ c.if-lent-gt65535.true)
+pub returns-in_err-next : goal.returns-in_err-next
+returns-in_err-next c =
+    let a = c.args in
+    let p = err_from_is_err_and c.from_residual.result c.from_residual.ensures.1 in
+    rw (p.1, p.2)
+    (ap (behind a.lent.now) c.in_err-next.ensures
+    ∙ sym (lent_by_parts (number_of a.number) (low_bytes a.count a.head) a.lent.now a.buf.now a.place c.if-lent-gt65535.false))
 
 pub slice_bounds-extend_from_slice-count : goal.slice_bounds-extend_from_slice-count
-slice_bounds-extend_from_slice-count c =
-    let room : RoomFor (length c.args.lent.now) c.begin_item.new.buf c.in-To.next = let a = c.args in lent_room _ (low_bytes a.count a.head) a.lent.now _ _ _ _ c.begin_item.ensures _ c.in-To.is in
-    let h = room in omega arith
+slice_bounds-extend_from_slice-count c = let r = lent_room _ _ _ _ _ _ _ c.in_ok-next.ensures in omega arith
 
 pub slice_bounds-extend_from_slice-start : goal.slice_bounds-extend_from_slice-start
-slice_bounds-extend_from_slice-start c =
-    let room : RoomFor (length c.args.lent.now) c.begin_item.new.buf c.in-To.next = let a = c.args in lent_room _ (low_bytes a.count a.head) a.lent.now _ _ _ _ c.begin_item.ensures _ c.in-To.is in
-    let h = room in omega arith
+slice_bounds-extend_from_slice-start c = let r = lent_room _ _ _ _ _ _ _ c.in_ok-next.ensures in omega arith
 
-pub slice_bounds-extend_from_slice-end : goal.slice_bounds-extend_from_slice-end
-slice_bounds-extend_from_slice-end c =
-    let room : RoomFor (length c.args.lent.now) c.begin_item.new.buf c.in-To.next = let a = c.args in lent_room _ (low_bytes a.count a.head) a.lent.now _ _ _ _ c.begin_item.ensures _ c.in-To.is in
-    let h = room in omega arith
+pub returns-in_err-len : goal.returns-in_err-len
+returns-in_err-len c =
+    let lent = c.args.lent.now in
+    absurd (rest_not_refused (length lent) lent _ c.in_ok-next.next c.if-lent-gt65535.false (lent_room _ _ _ _ _ _ _ c.in_ok-next.ensures) _ _ _ c.in_err-len.ensures)
 
 pub overflow_add-result : goal.overflow_add-result
 overflow_add-result c =
-    let room : RoomFor (length c.args.lent.now) c.begin_item.new.buf c.in-To.next = let a = c.args in lent_room _ (low_bytes a.count a.head) a.lent.now _ _ _ _ c.begin_item.ensures _ c.in-To.is in
-    let h = room in omega arith
+    let lent = c.args.lent.now in
+    let r = lent_room _ _ _ _ _ _ _ c.in_ok-next.ensures in
+    omega (arith, rest_ends (length lent) lent _ c.in_ok-next.next c.if-lent-gt65535.false r _ _ c.in_ok-len.ensures)
 
-pub returns-in-To : goal.returns-in-To
-returns-in-To c =
+pub returns : goal.returns
+returns c =
+    let a = c.args in
     let small = c.if-lent-gt65535.false in
-    let a = c.args in
-    lent_written _ (low_bytes a.count a.head) a.lent.now _ _ _ _ c.begin_item.ensures _ c.in-To.is _ _ small c.extend_from_slice.ensures
-    ∙ item_lent _ _ (low_bytes a.count a.head ++ a.lent.now) _ _ small
-
-pub returns-in-Refused : goal.returns-in-Refused
-returns-in-Refused c =
-    let a = c.args in
-    lent_refused _ (low_bytes a.count a.head) a.lent.now _ _ _ _ c.begin_item.ensures _ c.in-Refused.is
-    ∙ item_lent _ _ (low_bytes a.count a.head ++ a.lent.now) _ _ c.if-lent-gt65535.false
+    rest_written (length a.lent.now) a.lent.now _ c.in_ok-next.next small (lent_room _ _ _ _ _ _ _ c.in_ok-next.ensures) _ _ c.in_ok-len.ensures
+    ∙ ap (behind a.lent.now) c.in_ok-next.ensures
+    ∙ sym (lent_by_parts (number_of a.number) (low_bytes a.count a.head) a.lent.now a.buf.now a.place small)
