@@ -6,21 +6,20 @@ use mathlib.Core.Logic.{◌⊎◌, inl, inr, ⊎_elim, ◌↔◌}
 use mathlib.Core.Bool.{Bool, true, false}
 use mathlib.Core.List.{List, [], ◌++◌, append_assoc, append-nil}
 use native.Mathlib.Omega.{arith}
-use borrow.Author.Tests.{le-ltb, ltb-true, eq-eqb, ne_eqb}
+use borrow.Author.Tests.{lt-ltb, le-ltb, ltb-true, eq-eqb, ne_eqb}
 use lib.ListN.{length, drop, length-append, length-drop}
 use lib.Dec.{ltb}
 use Rattle.types.specs.Choice.{if}
-use Rattle.types.specs.Tag.{Number, opening, Tag}
+use Rattle.types.specs.Tag.{Tag}
 use Rattle.types.specs.Refusal.{Carried, amount, tag_found}
-use Rattle.types.specs.Answer.{Answer, accepted, refused, Outcome, passed, stopped}
-use Rattle.types.proofs.Choices.{either}
-use Rattle.tags.specs.Reading.{tag_from, expected_from, same_number, expected_number}
+use Rattle.types.specs.Answer.{Answer, refused}
+use Rattle.tags.specs.Reading.{tag_from, expected_from}
 use Rattle.tags.proofs.Exactly.{tag_found_lem, tag_read, tag_length}
 use Rattle.tags.proofs.OneTag.{one_tag}
 use Rattle.tags.proofs.Refusals.{past_end, at_the_end, tag_refused}
 use Rattle.bodies.specs.Item.{Item}
 use Rattle.bodies.specs.Body.{BodyAt}
-use Rattle.bodies.specs.Scan.{Body, Counted, counted, handed, unread, scanned, body_for_from}
+use Rattle.bodies.specs.Scan.{Body, Counted, counted, handed, unread, body_for_from}
 use Rattle.bodies.specs.Given.{given}
 use Rattle.bodies.specs.Count.{CountIs}
 use Rattle.bodies.specs.Optional.{Absence, end_of_buffer, other_tag, Optional, body_or_refusal, absent, optional_of, optional_from}
@@ -63,17 +62,6 @@ why_among : {allowance k : ℕ} {xs : List ℕ} {end m r : ℕ} {c : Carried} �
 why_among (spent h) = inr (inr (inr refl))
 why_among (run_out h g) = inr (inr (inl refl))
 
--- a check of the number tells the test: it passes for the same number, and stops for another
-passed_same : (expected : Number) (t : Tag) → expected_number expected t ≡ passed → same_number t.number expected ≡ true
-unfolding expected_number
-passed_same expected t =
-    either (λ (o : Outcome). o ≡ passed → same_number t.number expected ≡ true) (same_number t.number expected) (λ f e. f) (λ f e. let z : ◌≡◌ {A = ℕ} 0 1 = cc in absurd (omega arith))
-
-stopped_other : (expected : Number) (t : Tag) {r : ℕ} {c : Carried} → expected_number expected t ≡ stopped r c → same_number t.number expected ≡ false
-unfolding expected_number
-stopped_other expected t {r} {c} =
-    either (λ (o : Outcome). o ≡ stopped r c → same_number t.number expected ≡ false) (same_number t.number expected) (λ f e. let z : ◌≡◌ {A = ℕ} 0 1 = cc in absurd (omega arith)) (λ f e. f)
-
 -- a body that is begun at a place is not absent there
 begun_or_absent : (xs : List ℕ) (place n : ℕ) {a : Absence} → Begun xs place n → AbsentAt xs place n a → ⊥
 begun_or_absent xs place n (stands bytes rest here is) (ends e) = omega (arith, length-drop place xs, ap length here, length-append bytes rest, tag_length is)
@@ -84,7 +72,12 @@ begun_or_absent xs place n (cut more l is) (other bytes' rest' here' is' f) =
     f (ap (λ (t : Tag). t.number) (one_tag is' is (rest' ++ more) [] same).same_tag)
 
 module _ (expected allowance : ℕ) (xs : List ℕ) (place : ℕ) where
-  -- away from the end of a buffer that is not too long, the tag tells
+  -- a buffer that is too long is refused
+  pub optional_too_long : 65535 < length xs → optional_from expected allowance xs place ≡ body_or_refusal (unread 1 (amount (length xs)))
+  unfolding optional_from
+  optional_too_long l = simp (lt-ltb 65535 (length xs) l)
+
+  -- away from the end of one that is not, the tag tells
   pub optional_by_tag : length xs ≤ 65535 → (place ≡ length xs → ⊥) → optional_from expected allowance xs place ≡ optional_of expected allowance xs (tag_from xs place)
   unfolding optional_from
   optional_by_tag small away = simp (le-ltb 65535 (length xs) small, ne_eqb place (length xs) away) (go (ltb (length xs) place) refl)
@@ -92,13 +85,6 @@ module _ (expected allowance : ℕ) (xs : List ℕ) (place : ℕ) where
       go : (b : Bool) → ltb (length xs) place ≡ b → if b (body_or_refusal (unread 2 (amount place))) (optional_of expected allowance xs (tag_from xs place)) ≡ optional_of expected allowance xs (tag_from xs place)
       go true f = ap (optional_of expected allowance xs) (sym (past_end xs place small (ltb-true (length xs) place f)))
       go false f = refl
-
-  -- where the check of its number passes, the scan answers; where it stops, the body is absent
-  pub optional_opened : length xs ≤ 65535 → (place ≡ length xs → ⊥) → (t : Tag) (next : ℕ) → tag_from xs place ≡ accepted t next → expected_number (opening expected) t ≡ passed → optional_from expected allowance xs place ≡ body_or_refusal (scanned allowance expected xs next)
-  optional_opened small away t next e p = optional_by_tag small away ∙ simp (e, passed_same (opening expected) t p)
-
-  pub optional_other : length xs ≤ 65535 → (place ≡ length xs → ⊥) → (t : Tag) (next : ℕ) → tag_from xs place ≡ accepted t next → {r : ℕ} {c : Carried} → expected_number (opening expected) t ≡ stopped r c → optional_from expected allowance xs place ≡ absent (other_tag t)
-  optional_other small away t next e p = optional_by_tag small away ∙ simp (e, stopped_other (opening expected) t p)
 
   -- at the end of one it is absent
   pub optional_at_end : length xs ≤ 65535 → place ≡ length xs → optional_from expected allowance xs place ≡ absent end_of_buffer

@@ -40,15 +40,14 @@ unfolding scan_step_from
 onward_moves n unclosed xs place e =
     subst (Moves unclosed place) e (either (Moves unclosed place) (ltb (length xs) place) (λ f. tt) (λ f. of_moves n unclosed xs place (tag_from xs place) refl))
 
-pub none_spent : (n start allowance : ℕ) (xs : List ℕ) → scan_from allowance n start 0 0 xs start ≡ scan_from (allowance - 0) n start 0 0 xs start
-none_spent n start allowance xs = ap (λ (f : ℕ). scan_from f n start 0 0 xs start) (let z : allowance ≡ allowance - 0 = omega arith in z)
-
 -- what the whole scan answers, with k tags of the allowance read
 module _ (n start allowance k unclosed : ℕ) (xs : List ℕ) (place : ℕ) {whole : Counted} (is : whole ≡ scan_from (allowance - k) n start k unclosed xs place) where
   -- is 14 where the allowance is spent
-  pub spent : allowance ≤ k → counted (refused 14 (amount k)) k ≡ whole
+  pub spent : k ≡ allowance → counted (refused 14 (amount allowance)) allowance ≡ whole
   unfolding scan_from
-  spent l = sym (is ∙ ap (λ (f : ℕ). scan_from f n start k unclosed xs place) (let z : allowance - k ≡ 0 = omega arith in z))
+  spent e =
+      ap (λ (j : ℕ). counted (refused 14 (amount j)) j) (sym e)
+      ∙ sym (is ∙ ap (λ (f : ℕ). scan_from f n start k unclosed xs place) (let z : allowance - k ≡ 0 = omega arith in z))
 
   -- and else what the next step leads to
   pub turned : k < allowance → {step : ScanStep} → scan_step_from n unclosed xs place ≡ step

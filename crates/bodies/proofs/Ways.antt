@@ -26,7 +26,11 @@ valueless xs place n v next e =
     let z : v ≡ 0 = block_has_no_value (tag_found_lem xs place (tag (opening n) v) next e).is_tag in
     cc
 
--- a buffer in which a tag of the number expected was read is not too long
+-- a buffer in which a tag was read is not too long
+pub small_found : (xs : List ℕ) (place : ℕ) (t : Tag) (next : ℕ) → tag_from xs place ≡ accepted t next → length xs ≤ 65535
+small_found xs place t next e = (tag_found_lem xs place t next e).small
+
+-- and no more where it has the number expected
 abbrev SmallIf : List ℕ → Answer Tag → Type 0
 SmallIf xs (accepted t next) = length xs ≤ 65535
 SmallIf xs (refused r c) = Unit {0}

@@ -1,16 +1,15 @@
 -- What asking for an optional body, which its sender may leave out, answers on all inputs: the body of a number at a place if one stands there, with document 01's refusals in their order.
 -- Assumes nothing.
-use Rattle.std.specs.Prelude.{ℕ, List, length, ltb, eqb}
+use Rattle.std.specs.Prelude.{ℕ, List, length, ltb, eqb, Result, Ok, Err}
 use Rattle.types.specs.Choice.{if}
 use Rattle.types.specs.Tag.{opening, Tag, tag_of}
 use Rattle.types.specs.Refusal.{amount}
-use Rattle.types.specs.Answer.{Answer, accepted, refused, refusal}
+use Rattle.types.specs.Answer.{Answer, accepted, refused}
 use Rattle.tags.specs.Reading.{tag_from, same_number}
-use Rattle.bodies.specs.Scan.{Counted, counted, handed, unread, scanned}
-use Rattle.bodies.specs.declared.optional.Absence as program
-use Rattle.bodies.specs.declared.optional.Absence.TheVariants as a
-use Rattle.bodies.specs.declared.optional.OptionalBodyRead.{OptionalBodyRead}
-use Rattle.bodies.specs.declared.optional.OptionalBodyRead.TheVariants as o
+use Rattle.bodies.specs.Scan.{Counted, unread, scanned, counted_body, counted_refusal}
+use Rattle.types.specs.declared.counted.CountedRefusal.{CountedRefusal}
+use Rattle.bodies.specs.declared.optional.OptionalBody.{OptionalBody}
+use Rattle.bodies.specs.declared.optional.OptionalBody.TheVariants as o
 
 -- why a body is absent at a place: the buffer ends there, or another tag than the body's opening stands there
 pub data Absence : Type 0 where
@@ -37,11 +36,8 @@ optional_from expected allowance xs place =
     (if (eqb place (length xs)) (absent end_of_buffer)
     (optional_of expected allowance xs (tag_from xs place))))
 
-abbrev pub absence_of : program.Absence → Absence
-absence_of a.EndOfBuffer = end_of_buffer
-absence_of (a.OtherTag t) = other_tag (tag_of t)
-
-abbrev pub paper_optional : OptionalBodyRead → Optional
-paper_optional (o.Body start size n next tags) = body_or_refusal (handed start size n next tags)
-paper_optional (o.Absent x) = absent (absence_of x)
-paper_optional (o.Refused r tags) = body_or_refusal (counted (refusal r) tags)
+abbrev pub paper_optional : Result OptionalBody CountedRefusal → Optional
+paper_optional (Ok (o.Present b)) = body_or_refusal (counted_body b)
+paper_optional (Ok o.AbsentAtEnd) = absent end_of_buffer
+paper_optional (Ok (o.AbsentAt t)) = absent (other_tag (tag_of t))
+paper_optional (Err r) = body_or_refusal (counted_refusal r)

@@ -1,14 +1,15 @@
 -- What asking for a body answers, on all inputs (document 01, "Bodies"): the body is found tag by tag, with an allowance of tags.
 -- Assumes nothing.
-use Rattle.std.specs.Prelude.{ℕ, zero, suc, ◌+◌, ◌-◌, List, length, ltb, eqb}
+use Rattle.std.specs.Prelude.{ℕ, zero, suc, ◌+◌, ◌-◌, List, length, ltb, eqb, Result, Ok, Err}
 use Rattle.types.specs.Choice.{if}
 use Rattle.types.specs.Tag.{Number, application, context, opening, closing, Tag}
 use Rattle.types.specs.Refusal.{Carried, amount, tag_found, table}
 use Rattle.types.specs.Answer.{Answer, accepted, refused, refusal}
 use Rattle.tags.specs.Reading.{tag_from, expected_from}
 use Rattle.bodies.specs.Item.{content_length}
-use Rattle.bodies.specs.declared.body.BodyRead.{BodyRead}
-use Rattle.bodies.specs.declared.body.BodyRead.TheVariants as b
+use Rattle.types.specs.declared.refusal.Refusal.{Refusal}
+use Rattle.types.specs.declared.counted.CountedRefusal.{CountedRefusal}
+use Rattle.bodies.specs.declared.body.Body as program-body
 use Rattle.bodies.specs.declared.scan.Step as program
 use Rattle.bodies.specs.declared.scan.Step.TheVariants as s
 
@@ -105,11 +106,21 @@ body_for_of expected allowance xs (refused k c) = unread k c
 unfoldable pub body_for_from : (expected allowance : ℕ) → List ℕ → (place : ℕ) → Counted
 body_for_from expected allowance xs place = body_for_of expected allowance xs (expected_from (opening expected) xs place)
 
-abbrev pub paper_step : program.Step → ScanStep
-paper_step (s.Refused r) = stops (table r).number (table r).carries
-paper_step (s.Closed next) = body_closed next
-paper_step (s.Onward unclosed place) = onward unclosed place
+-- what the program answers, on paper
+abbrev pub scan_step : program.Step → ScanStep
+scan_step (s.Closed next) = body_closed next
+scan_step (s.Onward unclosed place) = onward unclosed place
 
-abbrev pub paper_body : BodyRead → Counted
-paper_body (b.Body start size n next tags) = handed start size n next tags
-paper_body (b.Refused r tags) = counted (refusal r) tags
+abbrev pub paper_step : Result program.Step Refusal → ScanStep
+paper_step (Ok step) = scan_step step
+paper_step (Err r) = stops (table r).number (table r).carries
+
+abbrev pub counted_body : program-body.Body → Counted
+counted_body b = handed b.start b.len b.number b.next b.tags
+
+abbrev pub counted_refusal : CountedRefusal → Counted
+counted_refusal r = counted (refusal r.refusal) r.tags
+
+abbrev pub paper_body : Result program-body.Body CountedRefusal → Counted
+paper_body (Ok b) = counted_body b
+paper_body (Err r) = counted_refusal r

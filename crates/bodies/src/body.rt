@@ -1,18 +1,11 @@
-// What asking for a body answers.
-use types::Refusal;
+// What is told of a body that is found.
 
-// Where a body lies, its number and the place after its closing tag, or why none is handed over; and how many tags were read after the opening.
+// Where a body lies, its number and the place after its closing tag; and how many tags were read after the opening.
 #[derive(Clone, Copy)]
-pub enum BodyRead {
-    Body {
-        start: usize,
-        len: usize,
-        number: u8,
-        next: usize,
-        tags: usize,
-    },
-    Refused {
-        refusal: Refusal,
-        tags: usize,
-    },
+pub struct Body {
+    pub start: usize,
+    pub len: usize,
+    pub number: u8,
+    pub next: usize,
+    pub tags: usize,
 }

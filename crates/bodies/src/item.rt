@@ -4,37 +4,28 @@ ghost use Rattle.types.specs.Tag.{tag_of};
 ghost use Rattle.bodies.specs.Item.{content_length};
 ghost use Rattle.bodies.specs.Plain.{plain_length};
 
-use types::{Tag, TagNumber};
+use types::{ApplicationTagNumber, Tag, TagNumber};
 
 // How many bytes of content follow a tag: none behind a Boolean, an opening or a closing, else its value.
 pub fn content_length(tag: Tag) -> usize
     ensures value { result ≡ content_length (tag_of tag) }
     ensures upper_bound { result < 2 ^ 32 }
 {
-    let value = tag.value;
-    let number = tag.number;
-    match number {
-        TagNumber::Application(name) => if name.number() == 1 {
-            0
-        } else {
-            value as usize
-        },
-        TagNumber::ContextSpecific(_) => value as usize,
-        TagNumber::ContextSpecificOpening(_) => 0,
-        TagNumber::ContextSpecificClosing(_) => 0,
+    match tag.number {
+        TagNumber::Application(ApplicationTagNumber::Boolean)
+        | TagNumber::ContextSpecificOpening(_)
+        | TagNumber::ContextSpecificClosing(_) => 0,
+        _ => tag.value as usize,
     }
 }
 
-// How many bytes the item has that begins with this byte, where the byte is its whole tag and neither opens nor closes; else 0.
+// How many bytes the item has that begins with this byte, where the byte is its whole tag and neither opens nor closes; else 0, which is no item's length.
 pub(crate) fn plain_length(first: u8) -> usize
     ensures value { result ≡ plain_length first }
     ensures upper_bound { result ≤ 5 }
 {
     let low = first % 8;
-    if 4 < low {
-        return 0;
-    }
-    if 247 < first {
+    if 4 < low || 247 < first {
         return 0;
     }
     if first / 8 == 2 {

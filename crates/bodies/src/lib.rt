@@ -7,10 +7,10 @@ mod optional;
 mod scan;
 mod tagged;
 
-pub use body::BodyRead;
+pub use body::Body;
 pub use item::content_length;
-pub use optional::{Absence, OptionalBodyRead, get_optional_tagged_body};
+pub use optional::{OptionalBody, get_optional_tagged_body};
 pub use tagged::{get_tagged_body, get_tagged_body_for_tag};
 
 // A body's view is a part of the buffer, handed over by the layer below.
-pub use numbers::{PartRead, part};
+pub use numbers::{View, part};

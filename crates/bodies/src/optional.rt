@@ -1,88 +1,39 @@
 // An optional body: a block that its sender may leave out.
 ghost use Rattle.std.specs.Prelude.{◌≡◌};
-ghost use Rattle.bodies.specs.Scan.{paper_body};
-ghost use Rattle.bodies.specs.Optional.{body_or_refusal, optional_from, paper_optional};
+ghost use Rattle.bodies.specs.Optional.{optional_from, paper_optional};
 
-use crate::body::BodyRead;
+use crate::body::Body;
 use crate::scan::scan;
-use tags::TagRead;
-use types::{Outcome, Refusal, Tag, TagNumber};
+use types::{CountedRefusal, Refusal, Tag, TagNumber};
 
-// Why an optional body is absent at a place: the buffer ends there, or another tag than the body's opening stands there.
+// An optional body at a place: where it lies; or that it is absent, as the buffer ends there or another tag than its opening stands there.
 #[derive(Clone, Copy)]
-pub enum Absence {
-    EndOfBuffer,
-    OtherTag(Tag),
-}
-
-// Where a body lies, as `BodyRead` has it; that it is absent, and why; or why neither can be told, and how many tags were read after the opening.
-#[derive(Clone, Copy)]
-pub enum OptionalBodyRead {
-    Body {
-        start: usize,
-        len: usize,
-        number: u8,
-        next: usize,
-        tags: usize,
-    },
-    Absent(Absence),
-    Refused {
-        refusal: Refusal,
-        tags: usize,
-    },
+pub enum OptionalBody {
+    Present(Body),
+    AbsentAtEnd,
+    AbsentAt(Tag),
 }
 
 // Finds the body of the number expected if one stands at a place, reading at most so many tags after its opening; answers where it lies, or that it is absent.
+#[tactic(auto, using(crate::proofs::Presence::optional_too_long, crate::proofs::Presence::optional_at_end, crate::proofs::Presence::optional_by_tag))]
 pub fn get_optional_tagged_body(
     expected: u8,
     allowance: usize,
     buf: &[u8],
     place: usize,
-) -> OptionalBodyRead
+) -> Result<OptionalBody, CountedRefusal>
     ensures { paper_optional result ≡ optional_from expected allowance buf.now place }
 {
     if 65535 < buf.len() {
-        return OptionalBodyRead::Refused {
-            refusal: Refusal::BufferTooLong(buf.len()),
-            tags: 0,
-        };
+        return Err(Refusal::BufferTooLong(buf.len()).into());
     }
     if place == buf.len() {
-        return OptionalBodyRead::Absent(Absence::EndOfBuffer);
+        return Ok(OptionalBody::AbsentAtEnd);
     }
-    match tags::decode(buf, place) {
-        TagRead::Read(tag, next) => match tags::expect_number(
-            tag,
-            TagNumber::ContextSpecificOpening(expected),
-        ) {
-            Outcome::Passed => body_or_refusal(scan(expected, allowance, buf, next)),
-            // The refusal would carry the same tag: here it is what stands in the body's place.
-            Outcome::Refused(_) => OptionalBodyRead::Absent(Absence::OtherTag(tag)),
-        },
-        TagRead::Refused(refusal) => OptionalBodyRead::Refused { refusal, tags: 0 },
+    let (tag, next) = tags::decode(buf, place)?;
+    if tag.number != TagNumber::ContextSpecificOpening(expected) {
+        return Ok(OptionalBody::AbsentAt(tag));
     }
-}
-
-// The answer where the body's opening stands: the same body, or the same refusal.
-fn body_or_refusal(answer: BodyRead) -> OptionalBodyRead
-    ensures { paper_optional result ≡ body_or_refusal (paper_body answer) }
-{
-    match answer {
-        BodyRead::Body {
-            start,
-            len,
-            number,
-            next,
-            tags,
-        } => {
-            OptionalBodyRead::Body {
-                start,
-                len,
-                number,
-                next,
-                tags,
-            }
-        }
-        BodyRead::Refused { refusal, tags } => OptionalBodyRead::Refused { refusal, tags },
-    }
+    let body = scan(expected, allowance, buf, next)?;
+    Ok(OptionalBody::Present(body))
 }

@@ -6,7 +6,8 @@ use Rattle.bodies.specs.Scan.{scan_from}
 use Rattle.bodies.proofs.scan.scan.Given as goal
 
 abbrev pub invariant-loop-tags : goal.invariant-loop-tags
-invariant-loop-tags l = (l.tags ≤ l.allowance) × (l.unclosed ≤ l.tags) × (l.start ≤ l.place) × (scan_from l.allowance l.number l.start 0 0 l.buf l.start ≡ scan_from (l.allowance - l.tags) l.number l.start l.tags l.unclosed l.buf l.place)
-
-abbrev pub decreases-loop-tags : goal.decreases-loop-tags
-decreases-loop-tags l = l.allowance - l.tags
+invariant-loop-tags l = record {
+  few : l.unclosed ≤ l.tags;
+  ahead : l.start ≤ l.place;
+  same : scan_from l.allowance l.number l.start 0 0 l.buf l.start ≡ scan_from (l.allowance - l.tags) l.number l.start l.tags l.unclosed l.buf l.place;
+}
