@@ -5,26 +5,20 @@ use Prim.Native.Nat.{ℕ, zero, suc, ◌≤◌, ◌<◌}
 use native.Mathlib.Omega.{arith}
 use mathlib.Core.Bool.{Bool, true, false}
 use mathlib.Core.List.{List, ◌∷◌}
-use lib.Dec.{leb, ltb, eqb}
+use lib.Dec.{ltb, eqb}
 use lib.ListN.{length, get_or, set}
 use lib.Seq.{get_or-set_same, get_or-set_other}
-use borrow.Author.Tests.{ltb-true, ltb-false, eqb-true, eqb-false, le-ltb, le-leb, lt-leb, eq-eqb, ne_eqb}
+use borrow.Author.Tests.{ltb-true, ltb-false, eqb-true, eqb-false, le-ltb}
 use Rattle.types.specs.Choice.{if}
-use Rattle.types.specs.Tag.{Number, application, context, opening, closing, tag, tag_of}
+use Rattle.types.specs.Tag.{Number, application, context, opening, closing, tag}
 use Rattle.types.specs.Refusal.{Carried, amount}
-use Rattle.types.specs.Answer.{Answer, accepted, refused, Outcome, passed, stopped, paper_outcome}
-use Rattle.types.specs.declared.tag.Tag as program-tag
-use Rattle.types.specs.declared.refusal.Refusal.TheVariants as x
-use Rattle.types.specs.declared.outcome.Outcome as program-outcome
-use Rattle.types.specs.declared.outcome.Outcome.TheVariants as o
+use Rattle.types.specs.Answer.{Answer, accepted, refused, Outcome, passed, stopped}
 use Rattle.types.proofs.Choices.{either, read_on}
 use Rattle.tags.proofs.Refusals.{too_long, past_end, at_the_end}
-use Rattle.walk.specs.Tag.{item_from, Standing, standing, stands_by, stands_at, tag_at}
+use Rattle.walk.specs.Tag.{item_from, Standing, stands_by, stands_at, tag_at}
 use Rattle.walk.specs.Walk.{seen, Step, ends, goes, closing_step, at_end, step_from}
-use Rattle.walk.specs.Step.{opened, step_at, open_after, open_then, paper_stepped}
-use Rattle.walk.specs.Fitting.{fits_by, Keepable, ends_by}
-use Rattle.walk.specs.declared.stepping.Stepped.{Stepped}
-use Rattle.walk.specs.declared.stepping.Stepped.TheVariants as p
+use Rattle.walk.specs.Step.{opened, step_at, open_after}
+use Rattle.walk.specs.Fitting.{fits_by, Keepable}
 use Rattle.walk.proofs.Unfolds.{end_step}
 use Rattle.walk.proofs.Standing.{Goes, Agree, agrees, tag_at_bounds}
 
@@ -129,14 +123,20 @@ module _ (xs : List ℕ) (place blocks : ℕ) (os : List ℕ) where
     pub misfit_step : tag_at xs place blocks ≡ accepted s next → length os ≡ 16 → fits_by s.tag.number s.depth os ≡ false → step_at xs place (opened blocks os) ≡ ends (stopped 15 (amount place))
     misfit_step e l f = fitted e l ∙ ap (by_fit s.tag.number s.depth) f
 
-  -- one that is refused: the walk ends by that refusal, unless it passes
-  at_end_lem : (b : ℕ) → at_end xs (opened b os) ≡ if (eqb b 0) passed (stopped 3 (amount (length xs)))
-  at_end_lem zero = refl
-  at_end_lem (suc b) = rw (ne_eqb (suc b) 0 (λ e. omega arith)) refl
+  -- at the end of a buffer that is not too long the walk passes, where no block is open
+  pub passing_step : place ≡ length xs → blocks ≡ 0 → length xs ≤ 65535 → step_at xs place (opened blocks os) ≡ ends passed
+  passing_step z none small =
+      unguarded_step xs place (opened blocks os) small (omega arith) ∙ end_step xs place (opened blocks os) (omega arith)
+      ∙ ap (λ (b : ℕ). ends (at_end xs (opened b os))) none
 
-  module _ (n : ℕ) (c : Carried) (e : tag_at xs place blocks ≡ refused n c) where
+  -- one that is refused elsewhere: the walk ends by that refusal
+  unclosed : (b : ℕ) → (b ≡ 0 → ⊥) → at_end xs (opened b os) ≡ stopped 3 (amount (length xs))
+  unclosed zero h = absurd (h refl)
+  unclosed (suc b) h = refl
+
+  module _ (n : ℕ) (c : Carried) (e : tag_at xs place blocks ≡ refused n c) (going : place ≡ length xs → blocks ≡ 0 → length xs ≤ 65535 → ⊥) where
     abbrev Ends : Step → Type 0
-    Ends st = st ≡ ends (ends_by (length xs) place blocks (stopped n c))
+    Ends st = st ≡ ends (stopped n c)
 
     abbrev outcome : Answer Standing → Outcome
     outcome (accepted s next) = passed
@@ -146,40 +146,22 @@ module _ (xs : List ℕ) (place blocks : ℕ) (os : List ℕ) where
     known : {m : ℕ} {d : Carried} → tag_at xs place blocks ≡ refused m d → stopped m d ≡ stopped n c
     known h = ap outcome (sym h ∙ e)
 
-    -- it stands where the buffer is too long, and away from the end
-    stands_long : 65535 < length xs → ends_by (length xs) place blocks (stopped n c) ≡ stopped n c
-    stands_long h = by (eqb place (length xs)) (eqb blocks 0)
-      where
-        by : (a b : Bool) → if a (if b (if (leb (length xs) 65535) passed (stopped n c)) (stopped n c)) (stopped n c) ≡ stopped n c
-        by true true = rw (lt-leb (length xs) 65535 h) refl
-        by true false = refl
-        by false b = refl
-
-    stands_away : (place ≡ length xs → ⊥) → ends_by (length xs) place blocks (stopped n c) ≡ stopped n c
-    stands_away h = rw (ne_eqb place (length xs) h) refl
-
-    ends_at_end : length xs ≤ 65535 → place ≡ length xs → Ends (step_from xs place (opened blocks os))
-    ends_at_end small z =
-        end_step xs place (opened blocks os) (omega arith)
-        ∙ ap ends (at_end_lem blocks ∙ ap (λ (y : Outcome). if (eqb blocks 0) passed y) (known (tag_at_end xs place blocks small z))
-        ∙ sym (rw (eq-eqb place (length xs) z, le-leb (length xs) 65535 small) refl))
-
     ends_inside : length xs ≤ 65535 → place ≤ length xs → Ends (step_from xs place (opened blocks os))
     ends_inside small inside =
-        either (λ (y : ℕ). Ends (step_from xs place (opened blocks os))) (eqb place (length xs)) {a = 0} {b = 0} (λ u. ends_at_end small (eqb-true place (length xs) u)) (λ u.
+        either (λ (y : ℕ). Ends (step_from xs place (opened blocks os))) (eqb place (length xs)) {a = 0} {b = 0}
+        (λ u.
+        let z : place ≡ length xs = eqb-true place (length xs) u in
+        end_step xs place (opened blocks os) (omega arith) ∙ ap ends (unclosed blocks (λ b. going z b small) ∙ known (tag_at_end xs place blocks small z)))
+        (λ u.
         let z : place ≡ length xs → ⊥ = eqb-false place (length xs) u in
-        agreed (refused n c) (omega arith) e ∙ ap ends (sym (stands_away z)))
+        agreed (refused n c) (omega arith) e)
 
-    pub refused_step : step_at xs place (opened blocks os) ≡ ends (ends_by (length xs) place blocks (stopped n c))
+    pub refused_step : Ends (step_at xs place (opened blocks os))
     unfolding step_at
     refused_step =
-        either Ends (ltb 65535 (length xs)) (λ u.
-        let h : 65535 < length xs = ltb-true 65535 (length xs) u in
-        ap ends (known (tag_long xs place blocks h) ∙ sym (stands_long h))) (λ u.
+        either Ends (ltb 65535 (length xs)) (λ u. ap ends (known (tag_long xs place blocks (ltb-true 65535 (length xs) u)))) (λ u.
         let small : length xs ≤ 65535 = ltb-false 65535 (length xs) u in
-        either Ends (ltb (length xs) place) (λ v.
-        let h : length xs < place = ltb-true (length xs) place v in
-        ap ends (known (tag_past xs place blocks small h) ∙ sym (stands_away (λ z. omega arith)))) (λ v.
+        either Ends (ltb (length xs) place) (λ v. ap ends (known (tag_past xs place blocks small (ltb-true (length xs) place v)))) (λ v.
         ends_inside small (ltb-false (length xs) place v)))
 
 -- what does not fit leaves the numbers as they were
@@ -187,28 +169,8 @@ abbrev Is : Bool → Type 0
 Is true = Unit {0}
 Is false = ⊥
 
-misfit_kept : (k : Number) (depth : ℕ) (os : List ℕ) → fits_by k depth os ≡ false → open_after k depth os ≡ os
+pub misfit_kept : (k : Number) (depth : ℕ) (os : List ℕ) → fits_by k depth os ≡ false → open_after k depth os ≡ os
 misfit_kept (application n) depth os e = refl
 misfit_kept (context n) depth os e = refl
 misfit_kept (opening n) depth os e = absurd (subst Is e tt)
 misfit_kept (closing n) depth os e = refl
-
--- so what `step` answers, and the numbers that it leaves, are those of the walk's step
-module _ (xs : List ℕ) (place blocks : ℕ) (os left : List ℕ) where
-  abbrev Told : Stepped → Type 0
-  Told r = (paper_stepped place left r ≡ step_at xs place (opened blocks os)) × (left ≡ open_then (step_at xs place (opened blocks os)) os)
-
-  told : (r : Stepped) (st : Step) → step_at xs place (opened blocks os) ≡ st → paper_stepped place left r ≡ st → left ≡ open_then st os → Told r
-  told r st e a b = (a ∙ sym e, b ∙ ap (λ (y : Step). open_then y os) (sym e))
-
-  module _ (t : program-tag.Tag) (depth next inside : ℕ) (e : tag_at xs place blocks ≡ accepted (standing (tag_of t) depth inside) next) (l : length os ≡ 16) (k : left ≡ open_after (tag_of t).number depth os) where
-    pub told_accepted : fits_by (tag_of t).number depth os ≡ true → Told (p.Accepted t depth next inside)
-    told_accepted f =
-        told (p.Accepted t depth next inside) _ (fitting_step xs place blocks os (standing (tag_of t) depth inside) next e l f) (ap (λ (y : List ℕ). goes (seen place depth (tag_of t)) next (opened inside y)) k) k
-
-    pub told_misfit : fits_by (tag_of t).number depth os ≡ false → Told (p.Ended (o.Refused (x.ClosingWithoutOpening place)))
-    told_misfit f =
-        told (p.Ended (o.Refused (x.ClosingWithoutOpening place))) _ (misfit_step xs place blocks os (standing (tag_of t) depth inside) next e l f) refl (k ∙ misfit_kept (tag_of t).number depth os f)
-
-  pub told_ended : (n : ℕ) (c : Carried) (q : program-outcome.Outcome) → tag_at xs place blocks ≡ refused n c → left ≡ os → paper_outcome q ≡ ends_by (length xs) place blocks (stopped n c) → Told (p.Ended q)
-  told_ended n c q e k h = told (p.Ended q) _ (refused_step xs place blocks os n c e) (ap ends h) k

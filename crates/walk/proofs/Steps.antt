@@ -9,21 +9,23 @@ use mathlib.Core.List.{List, []}
 use lib.Dec.{ltb}
 use lib.ListN.{length}
 use borrow.Author.Tests.{ltb-false}
+use Rattle.std.specs.declared.option.Option.{Option}
+use Rattle.std.specs.declared.option.Option.TheVariants.{Some, None}
+use Rattle.std.specs.declared.result.Result.{Result}
+use Rattle.std.specs.declared.result.Result.TheVariants.{Ok, Err}
 use Rattle.types.specs.Choice.{if}
 use Rattle.types.specs.Tag.{tag_of}
 use Rattle.types.specs.Refusal.{amount}
-use Rattle.types.specs.Answer.{Outcome, stopped, paper_outcome}
-use Rattle.types.specs.declared.tag.Tag as program-tag
-use Rattle.types.specs.declared.outcome.Outcome as program-outcome
+use Rattle.types.specs.Answer.{Outcome, passed, stopped, paper_outcome}
+use Rattle.types.specs.declared.refusal.Refusal.{Refusal}
 use Rattle.types.proofs.Choices.{either}
 use Rattle.walk.specs.Tag.{standing}
 use Rattle.walk.specs.Walk.{Seen, seen, Walk, ended, more, Step, ends, goes, step_from, turn, walk_on, walk_from, report, reported}
-use Rattle.walk.specs.Nested.{report_after}
+use Rattle.walk.specs.Nested.{report_after, refused_by}
 use Rattle.walk.specs.Step.{opened, step_at, paper_stepped}
 use Rattle.walk.specs.Steps.{Steps}
 use Rattle.walk.specs.Steps.Steps.{last, one}
-use Rattle.walk.specs.declared.stepping.Stepped.{Stepped}
-use Rattle.walk.specs.declared.stepping.Stepped.TheVariants as p
+use Rattle.walk.specs.declared.tag.Accepted.{Accepted}
 use Rattle.walk.proofs.Unfolds.{unfolds}
 use Rattle.walk.proofs.Standing.{tag_at_bounds}
 use Rattle.walk.proofs.Counted.{Sees, sees}
@@ -97,40 +99,64 @@ module _ (xs : List ℕ) (place blocks : ℕ) (os : List ℕ) where
   unfolding walk_left
   ends_left o e = ap (λ (s : Step). turn s (walk_on xs)) e
 
+-- what a call of `step` answers where the walk ends: no tag, or the refusal
+abbrev pub ending : Result (Unit {0}) Refusal → Result (Option Accepted) Refusal
+ending (Ok u) = Ok None
+ending (Err f) = Err f
+
 -- a call of `step`: what it answers, and the numbers that it leaves
-module _ (xs : List ℕ) (place blocks : ℕ) (os left : List ℕ) (r : Stepped) (told : paper_stepped place left r ≡ step_at xs place (opened blocks os)) where
-  was : {q : Stepped} → r ≡ q → step_at xs place (opened blocks os) ≡ paper_stepped place left q
+module _ (xs : List ℕ) (place blocks : ℕ) (os left : List ℕ) (r : Result (Option Accepted) Refusal) (told : paper_stepped place left r ≡ step_at xs place (opened blocks os)) where
+  was : {q : Result (Option Accepted) Refusal} → r ≡ q → step_at xs place (opened blocks os) ≡ paper_stepped place left q
   was e = sym told ∙ ap (paper_stepped place left) e
 
-  module _ {t : program-tag.Tag} {depth next after : ℕ} (is : r ≡ p.Accepted t depth next after) where
-    bounds : Inside xs place (opened blocks os) (goes (seen place depth (tag_of t)) next (opened after left))
-    bounds = goes_inside xs place blocks os (seen place depth (tag_of t)) next (opened after left) (was is)
+  module _ {a : Accepted} (is : r ≡ Ok (Some a)) where
+    bounds : Inside xs place (opened blocks os) (goes (seen place a.depth (tag_of a.tag)) a.next (opened a.blocks left))
+    bounds = goes_inside xs place blocks os (seen place a.depth (tag_of a.tag)) a.next (opened a.blocks left) (was is)
 
     -- a tag that is accepted ends after its place, inside a buffer that is not too long
-    pub step_inside : (length xs ≤ 65535) × (place < next) × (next ≤ length xs)
+    pub step_inside : (length xs ≤ 65535) × (place < a.next) × (a.next ≤ length xs)
     step_inside = (bounds.0, bounds.1, bounds.2)
 
     -- and no more than sixteen blocks are open around it or after it, where that holds before it
-    pub step_few : blocks ≤ 16 → (depth ≤ 16) × (after ≤ 16)
+    pub step_few : blocks ≤ 16 → (a.depth ≤ 16) × (a.blocks ≤ 16)
     step_few h =
         let l : length (opened blocks os) ≤ 16 = omega (arith, opened_length blocks os) in
-        let f : (depth ≤ 16) × (length (opened after left) ≤ 16) = bounds.3 l in
-        (f.0, omega (arith, f.1, opened_length after left))
+        let f : (a.depth ≤ 16) × (length (opened a.blocks left) ≤ 16) = bounds.3 l in
+        (f.0, omega (arith, f.1, opened_length a.blocks left))
 
     -- it is the first of the tags that are left, and counts as one
-    pub left_goes : walk_left xs place blocks os ≡ more (seen place depth (tag_of t)) (walk_left xs next after left)
-    left_goes = goes_left xs place blocks os (seen place depth (tag_of t)) next after left (was is)
+    pub left_goes : walk_left xs place blocks os ≡ more (seen place a.depth (tag_of a.tag)) (walk_left xs a.next a.blocks left)
+    left_goes = goes_left xs place blocks os (seen place a.depth (tag_of a.tag)) a.next a.blocks left (was is)
 
-    pub report_goes : (k : ℕ) → report_after k (walk_left xs place blocks os) ≡ report_after (k + 1) (walk_left xs next after left)
-    report_goes k = ap (report_after k) left_goes ∙ report_more k (seen place depth (tag_of t)) (walk_left xs next after left)
+    pub report_goes : (k : ℕ) → report_after k (walk_left xs place blocks os) ≡ report_after (k + 1) (walk_left xs a.next a.blocks left)
+    report_goes k = ap (report_after k) left_goes ∙ report_more k (seen place a.depth (tag_of a.tag)) (walk_left xs a.next a.blocks left)
 
-  module _ {o : program-outcome.Outcome} (is : r ≡ p.Ended o) where
-    -- where the walk ends none is left
-    pub left_ends : walk_left xs place blocks os ≡ ended (paper_outcome o)
-    left_ends = ends_left xs place blocks os (paper_outcome o) (was is)
+  -- where the walk ends none is left: it passes, or is refused
+  ended_by : {o : Outcome} → step_at xs place (opened blocks os) ≡ ends o → (k : ℕ) → report_after k (walk_left xs place blocks os) ≡ report k o
+  ended_by {o} e k = ap (report_after k) (ends_left xs place blocks os o e) ∙ report_ended k o
 
-    pub report_ends : (k : ℕ) → report_after k (walk_left xs place blocks os) ≡ report k (paper_outcome o)
-    report_ends k = ap (report_after k) left_ends ∙ report_ended k (paper_outcome o)
+  module _ (is : r ≡ Ok None) where
+    pub left_passes : walk_left xs place blocks os ≡ ended passed
+    left_passes = ends_left xs place blocks os passed (was is)
+
+    pub report_passes : (k : ℕ) → report_after k (walk_left xs place blocks os) ≡ report k passed
+    report_passes k = ended_by (was is) k
+
+  module _ {f : Refusal} (is : r ≡ Err f) where
+    pub left_refused : walk_left xs place blocks os ≡ ended (refused_by f)
+    left_refused = ends_left xs place blocks os (refused_by f) (was is)
+
+    pub report_refused : (k : ℕ) → report_after k (walk_left xs place blocks os) ≡ report k (refused_by f)
+    report_refused k = ended_by (was is) k
+
+  -- whichever of the two it is
+  pub left_ends : (o : Result (Unit {0}) Refusal) → r ≡ ending o → walk_left xs place blocks os ≡ ended (paper_outcome o)
+  left_ends (Ok u) is = left_passes is
+  left_ends (Err f) is = left_refused is
+
+  pub report_ends : (o : Result (Unit {0}) Refusal) → r ≡ ending o → (k : ℕ) → report_after k (walk_left xs place blocks os) ≡ report k (paper_outcome o)
+  report_ends (Ok u) is k = report_passes is k
+  report_ends (Err f) is k = report_refused is k
 
 -- all the steps, until the walk ends
 through : (xs : List ℕ) {place blocks : ℕ} {os : List ℕ} {w : Walk} → Steps xs place blocks os w → walk_left xs place blocks os ≡ w

@@ -1,13 +1,13 @@
 -- One step of the strict walk (document 01, "Bodies"), for a caller that goes tag by tag and keeps the numbers of the open blocks in places, outermost first.
 -- Assumes nothing.
-use Rattle.std.specs.Prelude.{ℕ, zero, suc, List, [], ◌∷◌, length, get_or, set, ltb}
+use Rattle.std.specs.Prelude.{ℕ, zero, suc, List, [], ◌∷◌, length, get_or, set, ltb, Result, Ok, Err, Option, Some, None}
 use Rattle.types.specs.Choice.{if}
 use Rattle.types.specs.Tag.{Number, application, context, opening, closing, tag_of}
-use Rattle.types.specs.Refusal.{amount}
-use Rattle.types.specs.Answer.{stopped, paper_outcome}
+use Rattle.types.specs.Refusal.{amount, table}
+use Rattle.types.specs.Answer.{passed, stopped}
 use Rattle.walk.specs.Walk.{seen, Step, ends, goes, step_from}
-use Rattle.walk.specs.declared.stepping.Stepped as program
-use Rattle.walk.specs.declared.stepping.Stepped.TheVariants as p
+use Rattle.types.specs.declared.refusal.Refusal.{Refusal}
+use Rattle.walk.specs.declared.tag.Accepted.{Accepted}
 
 -- the numbers of so many open blocks, innermost first; a block for which there is no place has the number 0
 abbrev pub opened : (blocks : ℕ) → (kept : List ℕ) → List ℕ
@@ -34,6 +34,7 @@ open_then (ends o) os = os
 open_then (goes t next ns) os = open_after t.tag.number t.depth os
 
 -- a step of the program at a place that leaves these numbers, on paper
-abbrev pub paper_stepped : (place : ℕ) → (kept : List ℕ) → program.Stepped → Step
-paper_stepped place os (p.Accepted t depth next blocks) = goes (seen place depth (tag_of t)) next (opened blocks os)
-paper_stepped place os (p.Ended o) = ends (paper_outcome o)
+abbrev pub paper_stepped : (place : ℕ) → (kept : List ℕ) → Result (Option Accepted) Refusal → Step
+paper_stepped place os (Ok (Some a)) = goes (seen place a.depth (tag_of a.tag)) a.next (opened a.blocks os)
+paper_stepped place os (Ok None) = ends passed
+paper_stepped place os (Err r) = ends (stopped (table r).number (table r).carries)

@@ -1,14 +1,14 @@
 -- Tags as the strict walk takes them (document 01, "Bodies"): each with its content, and with the number of blocks that are open.
 -- Assumes nothing.
-use Rattle.std.specs.Prelude.{ℕ, ◌+◌, ◌-◌, List, length, ltb, eqb}
+use Rattle.std.specs.Prelude.{ℕ, ◌+◌, ◌-◌, List, length, ltb, eqb, Result, Ok, Err}
 use Rattle.types.specs.Choice.{if}
 use Rattle.types.specs.Tag.{Number, application, context, opening, closing, Tag, tag_of}
 use Rattle.types.specs.Refusal.{amount}
 use Rattle.types.specs.Answer.{Answer, accepted, refused, refusal, then}
 use Rattle.tags.specs.Reading.{tag_from}
 use Rattle.bodies.specs.Item.{content_length}
-use Rattle.walk.specs.declared.tag.TagAt as program
-use Rattle.walk.specs.declared.tag.TagAt.TheVariants as p
+use Rattle.types.specs.declared.refusal.Refusal.{Refusal}
+use Rattle.walk.specs.declared.tag.Accepted.{Accepted}
 
 -- the tag of the item at a place, with the place after its content, which is to end inside the buffer: else 3, with the place where it should end
 unfoldable pub item_from : List ℕ → (place : ℕ) → Answer Tag
@@ -40,6 +40,6 @@ stands_at place blocks t next = stands_by place blocks t.number t next
 unfoldable pub tag_at : List ℕ → (place blocks : ℕ) → Answer Standing
 tag_at xs place blocks = then (item_from xs place) (λ t next. stands_at place blocks t next)
 
-abbrev pub paper_tag_at : program.TagAt → Answer Standing
-paper_tag_at (p.Accepted t depth next blocks) = accepted (standing (tag_of t) depth blocks) next
-paper_tag_at (p.Refused r) = refusal r
+abbrev pub paper_tag_at : Result Accepted Refusal → Answer Standing
+paper_tag_at (Ok a) = accepted (standing (tag_of a.tag) a.depth a.blocks) a.next
+paper_tag_at (Err r) = refusal r

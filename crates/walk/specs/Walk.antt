@@ -1,12 +1,12 @@
 -- The strict walk (document 01, "Bodies"), by steps: from a place to the buffer's end, the tags accepted and how it ends.
 -- Assumes nothing.
-use Rattle.std.specs.Prelude.{ℕ, zero, suc, List, [], ◌∷◌, length, ltb, eqb}
+use Rattle.std.specs.Prelude.{ℕ, zero, suc, List, [], ◌∷◌, length, ltb, eqb, Result, Ok, Err}
 use Rattle.types.specs.Choice.{if}
 use Rattle.types.specs.Tag.{Number, application, context, opening, closing, Tag}
-use Rattle.types.specs.Refusal.{amount}
-use Rattle.types.specs.Answer.{Answer, accepted, refused, Outcome, passed, stopped, paper_outcome}
+use Rattle.types.specs.Refusal.{amount, table}
+use Rattle.types.specs.Answer.{Answer, accepted, refused, Outcome, passed, stopped}
 use Rattle.walk.specs.Tag.{item_from}
-use Rattle.walk.specs.declared.walking.Walked.{Walked}
+use Rattle.types.specs.declared.counted.CountedRefusal.{CountedRefusal}
 
 -- a tag that was accepted: its place, its depth (the blocks open around it), and the tag
 pub record Seen : Type 0 where
@@ -99,5 +99,6 @@ report k o = record { tags = k; outcome = o }
 abbrev pub reported : Walk → Report
 reported w = report (length w.tags) w.outcome
 
-abbrev pub paper_walked : Walked → Report
-paper_walked r = report r.tags (paper_outcome r.outcome)
+abbrev pub paper_walked : Result ℕ CountedRefusal → Report
+paper_walked (Ok tags) = report tags passed
+paper_walked (Err r) = report r.tags (stopped (table r.refusal).number (table r.refusal).carries)

@@ -5,6 +5,6 @@ mod stepping;
 mod tag;
 mod walking;
 
-pub use stepping::{Stepped, step};
-pub use tag::{TagAt, tag_at};
-pub use walking::{Walked, walk};
+pub use stepping::step;
+pub use tag::{Accepted, tag_at};
+pub use walking::walk;
