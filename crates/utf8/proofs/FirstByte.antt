@@ -12,7 +12,7 @@ use mathlib.Core.Option.{Option, none, some}
 use Prim.Native.Nat.{ℕ, zero, suc, ◌≤◌, ◌<◌}
 use native.Mathlib.Omega.{arith}
 use lib.ListN.{length, get_or}
-use Rattle.utf8.specs.declared.lead.Lead.TheVariants.{Follow, Stray}
+use Rattle.std.specs.Prelude.{Some, None}
 use Rattle.utf8.specs.Table.{Range, %x, CharacterRow, UTF8-1, UTF8-2, UTF8-3, UTF8-4, UTF8-char}
 use Rattle.utf8.specs.Check.{within, begins, sequence_length}
 use Rattle.utf8.specs.Lead.{tails_of, ranges, as_tails}
@@ -66,47 +66,47 @@ chosen k byte e l h = sym (row_chosen UTF8-char 0 table_ascends (numbered UTF8-c
 
 -- the row that a first byte chooses, for each of the table's ranges of first bytes and for the bytes between and above them
 module _ (byte : ℕ) where
-  pub from_00 : byte ≤ 0x7F → tails_of UTF8-char byte ≡ as_tails (Follow 0 0x80 0xBF)
+  pub from_00 : byte ≤ 0x7F → tails_of UTF8-char byte ≡ as_tails (Some (record { count = 0; low = 0x80; high = 0xBF }))
   unfolding as_tails ranges UTF8-char UTF8-1 UTF8-2 UTF8-3 UTF8-4
   from_00 h = sym (chosen 0 byte refl (omega arith) h)
 
-  pub from_C2 : 0xC2 ≤ byte → byte ≤ 0xDF → tails_of UTF8-char byte ≡ as_tails (Follow 1 0x80 0xBF)
+  pub from_C2 : 0xC2 ≤ byte → byte ≤ 0xDF → tails_of UTF8-char byte ≡ as_tails (Some (record { count = 1; low = 0x80; high = 0xBF }))
   unfolding as_tails ranges UTF8-char UTF8-1 UTF8-2 UTF8-3 UTF8-4
   from_C2 l h = sym (chosen 1 byte refl l h)
 
-  pub at_E0 : byte ≡ 0xE0 → tails_of UTF8-char byte ≡ as_tails (Follow 2 0xA0 0xBF)
+  pub at_E0 : byte ≡ 0xE0 → tails_of UTF8-char byte ≡ as_tails (Some (record { count = 2; low = 0xA0; high = 0xBF }))
   unfolding as_tails ranges UTF8-char UTF8-1 UTF8-2 UTF8-3 UTF8-4
   at_E0 e = sym (chosen 2 byte refl (omega arith) (omega arith))
 
-  pub from_E1 : 0xE1 ≤ byte → byte ≤ 0xEC → tails_of UTF8-char byte ≡ as_tails (Follow 2 0x80 0xBF)
+  pub from_E1 : 0xE1 ≤ byte → byte ≤ 0xEC → tails_of UTF8-char byte ≡ as_tails (Some (record { count = 2; low = 0x80; high = 0xBF }))
   unfolding as_tails ranges UTF8-char UTF8-1 UTF8-2 UTF8-3 UTF8-4
   from_E1 l h = sym (chosen 3 byte refl l h)
 
-  pub at_ED : byte ≡ 0xED → tails_of UTF8-char byte ≡ as_tails (Follow 2 0x80 0x9F)
+  pub at_ED : byte ≡ 0xED → tails_of UTF8-char byte ≡ as_tails (Some (record { count = 2; low = 0x80; high = 0x9F }))
   unfolding as_tails ranges UTF8-char UTF8-1 UTF8-2 UTF8-3 UTF8-4
   at_ED e = sym (chosen 4 byte refl (omega arith) (omega arith))
 
-  pub from_EE : 0xEE ≤ byte → byte ≤ 0xEF → tails_of UTF8-char byte ≡ as_tails (Follow 2 0x80 0xBF)
+  pub from_EE : 0xEE ≤ byte → byte ≤ 0xEF → tails_of UTF8-char byte ≡ as_tails (Some (record { count = 2; low = 0x80; high = 0xBF }))
   unfolding as_tails ranges UTF8-char UTF8-1 UTF8-2 UTF8-3 UTF8-4
   from_EE l h = sym (chosen 5 byte refl l h)
 
-  pub at_F0 : byte ≡ 0xF0 → tails_of UTF8-char byte ≡ as_tails (Follow 3 0x90 0xBF)
+  pub at_F0 : byte ≡ 0xF0 → tails_of UTF8-char byte ≡ as_tails (Some (record { count = 3; low = 0x90; high = 0xBF }))
   unfolding as_tails ranges UTF8-char UTF8-1 UTF8-2 UTF8-3 UTF8-4
   at_F0 e = sym (chosen 6 byte refl (omega arith) (omega arith))
 
-  pub from_F1 : 0xF1 ≤ byte → byte ≤ 0xF3 → tails_of UTF8-char byte ≡ as_tails (Follow 3 0x80 0xBF)
+  pub from_F1 : 0xF1 ≤ byte → byte ≤ 0xF3 → tails_of UTF8-char byte ≡ as_tails (Some (record { count = 3; low = 0x80; high = 0xBF }))
   unfolding as_tails ranges UTF8-char UTF8-1 UTF8-2 UTF8-3 UTF8-4
   from_F1 l h = sym (chosen 7 byte refl l h)
 
-  pub at_F4 : byte ≡ 0xF4 → tails_of UTF8-char byte ≡ as_tails (Follow 3 0x80 0x8F)
+  pub at_F4 : byte ≡ 0xF4 → tails_of UTF8-char byte ≡ as_tails (Some (record { count = 3; low = 0x80; high = 0x8F }))
   unfolding as_tails ranges UTF8-char UTF8-1 UTF8-2 UTF8-3 UTF8-4
   at_F4 e = sym (chosen 8 byte refl (omega arith) (omega arith))
 
-  pub between : 0x80 ≤ byte → byte < 0xC2 → tails_of UTF8-char byte ≡ as_tails Stray
+  pub between : 0x80 ≤ byte → byte < 0xC2 → tails_of UTF8-char byte ≡ as_tails None
   unfolding as_tails Outside UTF8-char UTF8-1 UTF8-2 UTF8-3 UTF8-4
   between l h = sym (none_chosen UTF8-char byte (omega arith))
 
-  pub above : 0xF5 ≤ byte → tails_of UTF8-char byte ≡ as_tails Stray
+  pub above : 0xF5 ≤ byte → tails_of UTF8-char byte ≡ as_tails None
   unfolding as_tails Outside UTF8-char UTF8-1 UTF8-2 UTF8-3 UTF8-4
   above l = sym (none_chosen UTF8-char byte (omega arith))
 

@@ -1,14 +1,17 @@
 -- The bytes after a first byte, one at a time, as the code passes them.
 -- Assumes nothing.
 use mathlib.Core.Path.{◌≡◌, refl, sym, ap, ◌∙◌}
-use mathlib.Core.Bool.{true, false, ◌&&◌}
-use mathlib.Core.List.{List, ◌∷◌}
+use mathlib.Core.Bool.{Bool, true, false, ◌&&◌}
+use mathlib.Core.List.{List, [], ◌∷◌}
 use Prim.Native.Nat.{ℕ, zero, suc, ◌+◌, ◌-◌, ◌≤◌, ◌<◌}
 use native.Mathlib.Numerals.{add-one, sub-one}
 use native.Mathlib.Nat.{not-suc-le-zero}
-use lib.ListN.{length, drop, get_or, drop_of_length-le}
-use lib.Seq.{drop-cons}
-use Rattle.utf8.specs.declared.lead.Lead.TheVariants.{Follow, Stray}
+use lib.ListN.{length, take, drop, get_or, length-drop}
+use lib.Seq.{drop-cons, get_or-drop}
+use Rattle.std.proofs.lemmas.List.{get_or-take, length-take}
+use native.Mathlib.Omega.{arith}
+use Rattle.std.specs.Prelude.{Some, None}
+use Rattle.utf8.specs.declared.lead.Follow.{Follow}
 use Rattle.utf8.specs.Table.{%x, UTF8-char}
 use Rattle.utf8.specs.Check.{within, begins, sequence_length}
 use Rattle.utf8.specs.Lead.{tails_of, ranges, as_tails}
@@ -29,21 +32,21 @@ module _ (s : List ℕ) (place : ℕ) (inside : place < length s) where
   by_row = rw byte_then_rest (sequence_by_first_byte (get_or s place 0) (drop (place + 1) s))
 
   -- a stray byte begins no sequence
-  pub stray_begins_none : as_tails Stray ≡ tails_of UTF8-char (get_or s place 0) → sequence_length UTF8-char (drop place s) ≡ 0
+  pub stray_begins_none : as_tails None ≡ tails_of UTF8-char (get_or s place 0) → sequence_length UTF8-char (drop place s) ≡ 0
   unfolding as_tails sized
   stray_begins_none e = by_row ∙ rw (← e)
 
   -- nor does a byte after which a wrong one follows
-  pub wrong_begins_none : (count low high : ℕ) → as_tails (Follow count low high) ≡ tails_of UTF8-char (get_or s place 0)
-      → begins (ranges count low high) (drop (place + 1) s) ≡ false → sequence_length UTF8-char (drop place s) ≡ 0
+  pub wrong_begins_none : (f : Follow) → as_tails (Some f) ≡ tails_of UTF8-char (get_or s place 0)
+      → begins (ranges f.count f.low f.high) (drop (place + 1) s) ≡ false → sequence_length UTF8-char (drop place s) ≡ 0
   unfolding as_tails sized
-  wrong_begins_none count low high e f = by_row ∙ rw (← e, f)
+  wrong_begins_none f e h = by_row ∙ rw (← e, h)
 
   -- a byte after which the right ones follow begins a sequence
-  pub right_begins : (count low high : ℕ) → as_tails (Follow count low high) ≡ tails_of UTF8-char (get_or s place 0)
-      → begins (ranges count low high) (drop (place + 1) s) ≡ true → sequence_length UTF8-char (drop place s) ≡ suc count
+  pub right_begins : (f : Follow) → as_tails (Some f) ≡ tails_of UTF8-char (get_or s place 0)
+      → begins (ranges f.count f.low f.high) (drop (place + 1) s) ≡ true → sequence_length UTF8-char (drop place s) ≡ suc f.count
   unfolding as_tails sized
-  right_begins count low high e f = by_row ∙ rw (← e, f, ranges_length)
+  right_begins f e h = by_row ∙ rw (← e, h, ranges_length)
 
 -- nothing left to follow
 pub nothing_left : (s : List ℕ) (count low high place : ℕ) → count ≡ 0 → begins (ranges count low high) (drop place s) ≡ true
@@ -55,12 +58,18 @@ unfolding ranges
 first_range zero low high h = absurd (not-suc-le-zero h)
 first_range (suc count) low high h = ap (λ (k : ℕ). %x low high ∷ ranges k 0x80 0xBF) (sym (sub-one (suc count)))
 
-module _ (s : List ℕ) (place count low high : ℕ) (some_left : 0 < count) where
-  -- the text has ended
-  pub ended_wrong : length s ≤ place → begins (ranges count low high) (drop place s) ≡ false
-  unfolding begins
-  ended_wrong h = rw (first_range count low high some_left, drop_of_length-le s {i = place} h)
+-- too few bytes do not begin with those that are to follow
+pub cut_wrong : (count low high : ℕ) (bytes : List ℕ) → length bytes < count → begins (ranges count low high) bytes ≡ false
+unfolding ranges begins
+cut_wrong zero low high bytes h = absurd (omega arith)
+cut_wrong (suc count) low high [] h = refl
+cut_wrong (suc count) low high (byte ∷ bytes) h = rw (cut_wrong count 0x80 0xBF bytes (omega arith)) (and_false (within low high byte))
+  where
+    and_false : (t : Bool) → t && false ≡ false
+    and_false true = refl
+    and_false false = refl
 
+module _ (s : List ℕ) (place count low high : ℕ) (some_left : 0 < count) where
   one_byte : place < length s → begins (ranges count low high) (drop place s) ≡ within low high (get_or s place 0) && begins (ranges (count - 1) 0x80 0xBF) (drop (place + 1) s)
   unfolding begins
   one_byte h = rw (first_range count low high some_left, byte_then_rest s place h)
@@ -77,3 +86,11 @@ module _ (s : List ℕ) (place count low high : ℕ) (some_left : 0 < count) whe
   -- a byte above the range is wrong
   pub high_wrong : place < length s → high < get_or s place 0 → begins (ranges count low high) (drop place s) ≡ false
   high_wrong h a = one_byte h ∙ rw (above_range low high (get_or s place 0) a)
+
+-- a byte of a part of the text
+pub part_at : (s : List ℕ) (place n i : ℕ) → i < n → place + n ≤ length s → get_or (take n (take (length s - place) (drop place s))) i 0 ≡ get_or s (place + i) 0
+part_at s place n i l room = rw (get_or-take n (take (length s - place) (drop place s)) i 0 l, get_or-take (length s - place) (drop place s) i 0 (omega arith), get_or-drop)
+
+-- how many bytes such a part has
+pub part_length : (s : List ℕ) (place n : ℕ) → place + n ≤ length s → length (take n (take (length s - place) (drop place s))) ≡ n
+part_length s place n room = simp (length-take, length-drop) (omega arith)

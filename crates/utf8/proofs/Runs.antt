@@ -1,111 +1,162 @@
--- Runs of bytes below 128: the check goes on behind them.
+-- Runs of bytes below 128: counted by words of eight, and passed by the check.
 -- Assumes nothing.
-use mathlib.Core.Path.{◌≡◌, refl, ap, ◌∙◌, subst}
-use mathlib.Core.Bool.{Bool, true, false}
-use mathlib.Core.List.{List}
-use Prim.Native.Nat.{ℕ, zero, suc, ◌+◌, ◌*◌, ◌-◌, ◌≤◌, ◌<◌}
-use native.Mathlib.Omega.{arith}
-use lib.Dec.{ltb}
-use lib.ListN.{length, drop, get_or}
-use borrow.Author.Tests.{ltb-true, ltb-false}
+use Rattle.std.proofs.Common.{◌≡◌, ℕ, zero, suc, ◌+◌, ◌-◌, ◌*◌, ◌/◌, ◌%◌, ◌^◌, ◌<◌, ◌≤◌, Bool, true, false, cond, ◌&&◌, eqb, List, [], ◌∷◌, length, take, drop, get_or, refl, sym, ap, ◌∙◌, arith, bit_and, lit<, length-drop}
+use Rattle.std.specs.List.{prefix_len, list_all}
+use Rattle.std.specs.Char.{is_ascii}
+use Rattle.std.specs.Simd.{first_chunks}
+use Rattle.std.specs.Int.{w64, from_le_bytes}
+use Rattle.std.proofs.lemmas.Bool.Decides.{nat_tests}
+use Rattle.std.proofs.lemmas.Nat.Bits.{and_pow}
+use Rattle.std.proofs.Math.Nat.{div-mul-le_self, mul_comm}
+use Rattle.std.proofs.lemmas.List.Sums.{prefix_len-le-length, prefix_len_passes, prefix_len_stops, prefix_len-drop_yes}
+use Rattle.std.proofs.lemmas.Slice.{between_to_end}
+use Rattle.std.proofs.lemmas.Bool.{true≢false}
+use lib.Bits.{and_block}
+use borrow.Author.Tests.{ltb-true}
+use Rattle.utf8.specs.declared.lead.Follow.{Follow}
 use Rattle.utf8.specs.Table.{UTF8-1, UTF8-2, UTF8-3, UTF8-4, UTF8-char}
 use Rattle.utf8.specs.Lead.{as_tails, ranges}
 use Rattle.utf8.specs.Check.{sequence_length}
-use Rattle.utf8.specs.Runs.{PlainTo, LowBytes, eight_of}
 use Rattle.utf8.proofs.Places.{check_at, sequence_leads}
-use Rattle.utf8.proofs.FirstByte.{chosen}
+use Rattle.utf8.proofs.FirstByte.{from_00}
 use Rattle.utf8.proofs.Following.{right_begins, nothing_left}
+use lib.Seq.{drop-drop, get_or-drop}
+use native.Mathlib.Nat.{mul-zero}
 
-pub untrue : false ≡ true → ⊥
-untrue e = let h : 1 < 0 = ltb-true 1 0 e in omega arith
-
-pub none_passed : (s : List ℕ) (place : ℕ) → place ≤ length s → PlainTo s place place
-none_passed s place h = record { ahead = omega arith; inside = h; plain = λ i l u. absurd (omega arith) }
-
-pub one_passed : (s : List ℕ) (place : ℕ) → place < length s → get_or s place 0 < 128 → PlainTo s place (place + 1)
-one_passed s place h k =
-    record { ahead = omega arith; inside = omega arith; plain = λ i l u. let e : place ≡ i = omega arith in rw (← e) k }
-
--- two runs, one behind the other, are one
-pub further : {s : List ℕ} {a b c : ℕ} → PlainTo s a b → PlainTo s b c → PlainTo s a c
-further {s} {a} {b} {c} p q =
-    record {
-      ahead = omega (arith, p.ahead, q.ahead);
-      inside = q.inside;
-      plain = λ i l u. by i l u (ltb i b) refl;
-    }
+-- elements that pass are followed by as many as pass behind them
+all_then : {A : Type 0} (p : A → Bool) (n : ℕ) (xs : List A) → n ≤ length xs → list_all p (take n xs) ≡ true → prefix_len p xs ≡ n + prefix_len p (drop n xs)
+all_then p zero xs h e = omega arith
+all_then p (suc n) [] h e = absurd (omega arith)
+all_then p (suc n) (x ∷ xs) h e = by (p x) e (all_then p n xs (omega arith))
   where
-    by : (i : ℕ) → a ≤ i → i < c → (t : Bool) → ltb i b ≡ t → get_or s i 0 < 128
-    by i l u true e = p.plain i l (ltb-true i b e)
-    by i l u false e = q.plain i (ltb-false i b e) u
+    by : (t : Bool) → t && list_all p (take n xs) ≡ true → (list_all p (take n xs) ≡ true → prefix_len p xs ≡ n + prefix_len p (drop n xs)) → cond t (1 + prefix_len p xs) 0 ≡ suc n + prefix_len p (drop n xs)
+    by true e on = omega (arith, on e)
+    by false e on = absurd (let z : ◌≡◌ {A = ℕ} 0 1 = cc in omega arith)
+
+-- chunks that pass whole, and then as many elements as pass behind them
+chunks_then : {A : Type 0} (p : A → Bool) (n k : ℕ) (xs : List A) → k * n ≤ length xs
+    → n * prefix_len (list_all p) (first_chunks n k xs) + prefix_len p (drop (n * prefix_len (list_all p) (first_chunks n k xs)) xs) ≡ prefix_len p xs
+chunks_then p n zero xs h = simp mul-zero (omega arith)
+chunks_then {A} p n (suc k) xs h = by (list_all p (take n xs)) refl (chunks_then p n k (drop n xs) (omega (arith, length-drop n xs)))
+  where
+    m : ℕ
+    m = prefix_len (list_all p) (first_chunks n k (drop n xs))
+
+    by : (t : Bool) → list_all p (take n xs) ≡ t → n * m + prefix_len p (drop (n * m) (drop n xs)) ≡ prefix_len p (drop n xs)
+        → n * cond t (1 + m) 0 + prefix_len p (drop (n * cond t (1 + m) 0) xs) ≡ prefix_len p xs
+    by true e on =
+        let a : prefix_len p xs ≡ n + prefix_len p (drop n xs) = all_then p n xs (omega arith) e in
+        let b : n * (1 + m) ≡ n + n * m = omega arith in
+        let d : drop (n * m) (drop n xs) ≡ drop (n + n * m) xs = drop-drop (n * m) n xs in
+        rw b (omega (arith, rw d at on))
+    by false e on = simp mul-zero (omega arith)
+
+-- a chunk of those by its number
+chunk_at : {A : Type 0} (n k i : ℕ) (xs : List A) → i < k → get_or (first_chunks n k xs) i [] ≡ take n (drop (n * i) xs)
+chunk_at n zero i xs h = absurd (omega arith)
+chunk_at n (suc k) zero xs h = simp mul-zero refl
+chunk_at n (suc k) (suc i) xs h =
+    let e : n * suc i ≡ n + n * i = omega arith in
+    rw e (chunk_at n k i (drop n xs) (omega arith) ∙ ap (take n) (drop-drop (n * i) n xs))
+
+-- in a part that does not pass whole as many pass as in the list
+stops_inside : {A : Type 0} (p : A → Bool) (n : ℕ) (xs : List A) → list_all p (take n xs) ≡ false → prefix_len p (take n xs) ≡ prefix_len p xs
+stops_inside p zero xs e = absurd (true≢false e)
+stops_inside p (suc n) [] e = refl
+stops_inside p (suc n) (x ∷ xs) e = by (p x) e (stops_inside p n xs)
+  where
+    by : (t : Bool) → t && list_all p (take n xs) ≡ false → (list_all p (take n xs) ≡ false → prefix_len p (take n xs) ≡ prefix_len p xs) → cond t (1 + prefix_len p (take n xs)) 0 ≡ cond t (1 + prefix_len p xs) 0
+    by true e on = ap (λ (k : ℕ). 1 + k) (on e)
+    by false e on = refl
+
+module _ {A : Type 0} (p : A → Bool) (n : ℕ) (xs : List A) (chunks : List (List A)) (count more : ℕ) (are : chunks ≡ first_chunks n (length xs / n) xs) (is : count ≡ prefix_len (list_all p) chunks) where
+  -- the chunks that pass, and then as many elements as pass behind them
+  pub by_chunks : more ≡ prefix_len p (drop (n * count) xs) → n * count + more ≡ prefix_len p xs
+  by_chunks m =
+      let e : count ≡ prefix_len (list_all p) (first_chunks n (length xs / n) xs) = rw (← are) is in
+      rw (m, e) (chunks_then p n (length xs / n) xs (div-mul-le_self (length xs) n))
+
+  -- behind them stands the first that does not pass
+  pub up_to_chunk : (chunk : List A) → count < length xs / n → length chunks ≡ length xs / n → chunk ≡ get_or chunks count [] → more ≡ prefix_len p chunk → n * count + more ≡ prefix_len p xs
+  up_to_chunk chunk h l c m =
+      let fails : list_all p (get_or chunks count []) ≡ false = rw is (prefix_len_stops (list_all p) chunks [] (omega arith)) in
+      let e : get_or chunks count [] ≡ take n (drop (n * count) xs) = rw are (chunk_at n (length xs / n) count xs h) in
+      by_chunks (m ∙ ap (prefix_len p) (c ∙ e) ∙ stops_inside p n (drop (n * count) xs) (rw e at fails))
+
+  -- or the elements that fill no chunk
+  pub up_to_rest : (rest : List A) → count ≡ length xs / n → rest ≡ drop (length xs / n * n) xs → more ≡ prefix_len p rest → n * count + more ≡ prefix_len p xs
+  up_to_rest rest h r m =
+      let e : length xs / n * n ≡ n * count = rw h (mul_comm (length xs / n) n) in
+      by_chunks (m ∙ ap (prefix_len p) (r ∙ ap (λ (k : ℕ). drop k xs) e))
+
+-- the number that bytes stand for, the first the lowest, and the number with the highest bit of each of so many bytes
+abbrev number : List ℕ → ℕ
+number [] = 0
+number (b ∷ bs) = number bs * 2 ^ 8 + b
+
+abbrev highs : ℕ → ℕ
+highs zero = 0
+highs (suc n) = highs n * 2 ^ 8 + 128
+
+none_high : (bs : List ℕ) → ((i : ℕ) → get_or bs i 0 < 256) → eqb (bit_and (number bs) (highs (length bs))) 0 ≡ list_all is_ascii bs
+none_high [] h = refl
+none_high (b ∷ bs) h =
+    let e : bit_and (number (b ∷ bs)) (highs (suc (length bs))) ≡ bit_and (number bs) (highs (length bs)) * 2 ^ 8 + bit_and b 128 = and_block 8 (number bs) (highs (length bs)) b 128 (h 0) (lit< tt) in
+    let f : bit_and b 128 ≡ b / 128 % 2 * 128 = and_pow b 7 in
+    let g : b < 256 = h 0 in
+    rw (e, f, ← none_high bs (λ i. h (suc i))) (both b (bit_and (number bs) (highs (length bs))) g)
+  where
+    both : (b x : ℕ) → b < 256 → eqb (x * 2 ^ 8 + b / 128 % 2 * 128) 0 ≡ is_ascii b && eqb x 0
+    both b x h = grind (arith, nat_tests)
+
+word_of : (bs : List ℕ) → length bs ≡ 8 → from_le_bytes w64 bs ≡ number bs
+word_of (a ∷ b ∷ c ∷ d ∷ e ∷ f ∷ g ∷ h ∷ []) l = omega arith
+word_of (a ∷ b ∷ c ∷ d ∷ e ∷ f ∷ g ∷ h ∷ i ∷ bs) l = absurd (omega arith)
+word_of [] l = absurd (omega arith)
+word_of (a ∷ []) l = absurd (omega arith)
+word_of (a ∷ b ∷ []) l = absurd (omega arith)
+word_of (a ∷ b ∷ c ∷ []) l = absurd (omega arith)
+word_of (a ∷ b ∷ c ∷ d ∷ []) l = absurd (omega arith)
+word_of (a ∷ b ∷ c ∷ d ∷ e ∷ []) l = absurd (omega arith)
+word_of (a ∷ b ∷ c ∷ d ∷ e ∷ f ∷ []) l = absurd (omega arith)
+word_of (a ∷ b ∷ c ∷ d ∷ e ∷ f ∷ g ∷ []) l = absurd (omega arith)
+
+-- a word of eight bytes has none of their highest bits exactly if they are all below 128
+pub word_plain : (bs : List ℕ) → length bs ≡ 8 → ((i : ℕ) → get_or bs i 0 < 256) → eqb (bit_and (from_le_bytes w64 bs) 0x8080_8080_8080_8080) 0 ≡ list_all is_ascii bs
+word_plain bs l h =
+    let m : highs (length bs) ≡ 0x8080_8080_8080_8080 = ap highs l in
+    rw (word_of bs l, ← m) (none_high bs h)
 
 -- a byte below 128 is a sequence by itself
 alone : (s : List ℕ) (place : ℕ) → place < length s → get_or s place 0 < 128 → sequence_length UTF8-char (drop place s) ≡ 1
 unfolding as_tails ranges UTF8-char UTF8-1 UTF8-2 UTF8-3 UTF8-4
-alone s place h k = right_begins s place h 0 0x80 0xBF (chosen 0 (get_or s place 0) refl (omega arith) (omega arith)) (nothing_left s 0 0x80 0xBF (place + 1) refl)
+alone s place h k =
+    let f : Follow = record { count = 0; low = 0x80; high = 0xBF } in
+    right_begins s place h f (sym (from_00 (get_or s place 0) (omega arith))) (nothing_left s 0 0x80 0xBF (place + 1) refl)
 
-passed_by : (s : List ℕ) (k a b : ℕ) → a + k ≡ b → PlainTo s a b → check_at s a ≡ check_at s b
-passed_by s zero a b e p = let z : a ≡ b = omega arith in ap (check_at s) z
-passed_by s (suc k) a b e p =
-    let h : a < length s = omega (arith, p.inside) in
-    let z : a + 1 + k ≡ b = omega arith in
-    sequence_leads s a 0 (alone s a h (p.plain a (omega arith) (omega arith)))
-    ∙ passed_by s k (a + 1) b z (record { ahead = omega arith; inside = p.inside; plain = λ i l u. p.plain i (omega arith) u })
+passed_by : (s : List ℕ) (k place : ℕ) → place + k ≤ length s → ((i : ℕ) → i < k → get_or s (place + i) 0 < 128) → check_at s place ≡ check_at s (place + k)
+passed_by s zero place room plain = ap (check_at s) (let z : place ≡ place + 0 = omega arith in z)
+passed_by s (suc k) place room plain =
+    let here : get_or s place 0 < 128 = (let z : place + 0 ≡ place = omega arith in rw z at (plain 0 (omega arith))) in
+    let z : place + 1 + k ≡ place + suc k = omega arith in
+    sequence_leads s place 0 (alone s place (omega arith) here)
+    ∙ passed_by s k (place + 1) (omega arith) (λ i l. let e : place + suc i ≡ place + 1 + i = omega arith in rw e at (plain (suc i) (omega arith)))
+    ∙ ap (check_at s) z
 
-pub run_passed : {s : List ℕ} {a b : ℕ} → PlainTo s a b → check_at s a ≡ check_at s b
-run_passed {s} {a} {b} p = passed_by s (b - a) a b (omega (arith, p.ahead)) p
+module _ (s : List ℕ) (place n : ℕ) (inside : place < length s) (is : n ≡ prefix_len is_ascii (take (length s - place) (drop place s))) where
+  counted : n ≡ prefix_len is_ascii (drop place s)
+  counted = is ∙ ap (prefix_len is_ascii) (between_to_end s place (length s) (omega arith))
 
--- eight bytes in one number are its digits to base 256
-digits : (a b c d e f g h w : ℕ) → a < 256 → b < 256 → c < 256 → d < 256 → e < 256 → f < 256 → g < 256 → h < 256
-    → w ≡ a + b * 256 + c * 65536 + d * 16777216 + e * 4294967296 + f * 1099511627776 + g * 281474976710656 + h * 72057594037927936
-    → LowBytes w
-    → (a < 128) × (b < 128) × (c < 128) × (d < 128) × (e < 128) × (f < 128) × (g < 128) × (h < 128)
-digits a b c d e f g h w la lb lc ld le lf lg lh is t = (
-  omega (arith, t.first),
-  omega (arith, t.second),
-  omega (arith, t.third),
-  omega (arith, t.fourth),
-  omega (arith, t.fifth),
-  omega (arith, t.sixth),
-  omega (arith, t.seventh),
-  omega (arith, t.eighth),
-)
+  -- the bytes below 128 that come first end inside the text
+  pub run_ends : place + n ≤ length s
+  run_ends = omega (arith, counted, prefix_len-le-length is_ascii (drop place s), length-drop place s)
 
-below_eight : (P : ℕ → Type 0) → P 0 → P 1 → P 2 → P 3 → P 4 → P 5 → P 6 → P 7 → (k : ℕ) → k < 8 → P k
-below_eight P a b c d e f g h zero l = a
-below_eight P a b c d e f g h (suc zero) l = b
-below_eight P a b c d e f g h (suc (suc zero)) l = c
-below_eight P a b c d e f g h (suc (suc (suc zero))) l = d
-below_eight P a b c d e f g h (suc (suc (suc (suc zero)))) l = e
-below_eight P a b c d e f g h (suc (suc (suc (suc (suc zero))))) l = f
-below_eight P a b c d e f g h (suc (suc (suc (suc (suc (suc zero)))))) l = g
-below_eight P a b c d e f g h (suc (suc (suc (suc (suc (suc (suc zero))))))) l = h
-below_eight P a b c d e f g h (suc (suc (suc (suc (suc (suc (suc (suc k)))))))) l = absurd (omega arith)
+  -- the check goes on behind them
+  pub run_passed : check_at s place ≡ check_at s (place + n)
+  run_passed =
+      passed_by s n place run_ends
+      (λ i l. let below : i < prefix_len is_ascii (drop place s) = omega (arith, counted) in ltb-true (get_or s (place + i) 0) 128 (rw get_or-drop at (prefix_len_passes is_ascii (drop place s) i 0 below)))
 
-pub eight_passed : (s : List ℕ) (start w : ℕ) → ((i : ℕ) → get_or s i 0 < 256) → start + 8 ≤ length s → w ≡ eight_of s start
-    → LowBytes w
-    → PlainTo s start (start + 8)
-eight_passed s start w bytes room is t =
-    let at : (k : ℕ) → ℕ = λ k. get_or s (start + k) 0 in
-    let first : get_or s start 0 ≡ at 0 = ap (λ (i : ℕ). get_or s i 0) (let z : start ≡ start + 0 = omega arith in z) in
-    let is' : w ≡ at 0 + at 1 * 256 + at 2 * 65536 + at 3 * 16777216 + at 4 * 4294967296 + at 5 * 1099511627776 + at 6 * 281474976710656 + at 7 * 72057594037927936 = is ∙ rw first refl in
-    let d = digits (at 0) (at 1) (at 2) (at 3) (at 4) (at 5) (at 6) (at 7) w (bytes _) (bytes _) (bytes _) (bytes _) (bytes _) (bytes _) (bytes _) (bytes _) is' t in
-    record {
-      ahead = omega arith;
-      inside = room;
-      plain = λ i l u.
-          let e : start + (i - start) ≡ i = omega arith in
-          subst (λ (j : ℕ). get_or s j 0 < 128) e
-          (below_eight (λ (k : ℕ). at k < 128) d.0 d.1 d.2 d.3 d.4 d.5 d.6 d.7 (i - start) (omega arith));
-    }
-
--- a run that ends only at a byte of 128 or more goes ahead of a byte below
-pub goes_ahead : {s : List ℕ} {place end : ℕ} → place < length s → get_or s place 0 < 128 → PlainTo s place end → (end < length s → 128 ≤ get_or s end 0) → place < end
-goes_ahead {s} {place} {end} h k p stops = by (ltb place end) refl
-  where
-    by : (t : Bool) → ltb place end ≡ t → place < end
-    by true e = ltb-true place end e
-    by false e =
-        let z : end ≡ place = omega (arith, ltb-false place end e, p.ahead) in
-        let l : 128 ≤ get_or s place 0 = subst (λ (j : ℕ). 128 ≤ get_or s j 0) z (stops (omega arith)) in
-        absurd (omega arith)
+  -- and it goes ahead where such a byte stands
+  pub goes_ahead : is_ascii (get_or s place 0) ≡ true → 0 < n
+  goes_ahead e = omega (arith, counted, prefix_len-drop_yes is_ascii s place 0 inside e)

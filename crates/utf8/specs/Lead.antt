@@ -1,9 +1,8 @@
 -- About the code alone: what its answer on a first byte says of the table. No promise to a caller cites this.
 -- Assumes nothing.
-use Rattle.std.specs.Prelude.{cond, List, [], ◌∷◌, ℕ, zero, suc}
+use Rattle.std.specs.Prelude.{cond, List, [], ◌∷◌, ℕ, zero, suc, Option as Answer, Some, None}
 use Rattle.std.proofs.Math.Option.{Option, none, some}
-use Rattle.utf8.specs.declared.lead.Lead.{Lead}
-use Rattle.utf8.specs.declared.lead.Lead.TheVariants.{Follow, Stray}
+use Rattle.utf8.specs.declared.lead.Follow.{Follow}
 use Rattle.utf8.specs.Table.{%x, CharacterRow}
 use Rattle.utf8.specs.Check.{within}
 
@@ -19,6 +18,6 @@ ranges zero low high = []
 ranges (suc count) low high = %x low high ∷ ranges count 0x80 0xBF
 
 -- what the code's answer says is to follow
-unfoldable pub as_tails : Lead → Option CharacterRow
-as_tails (Follow count low high) = some (ranges count low high)
-as_tails Stray = none
+unfoldable pub as_tails : Answer Follow → Option CharacterRow
+as_tails (Some follow) = some (ranges follow.count follow.low follow.high)
+as_tails None = none

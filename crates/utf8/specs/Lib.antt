@@ -3,4 +3,3 @@ pub mod Text
 pub mod Check
 pub mod Answer
 pub mod Lead
-pub mod Runs

@@ -2,61 +2,49 @@
 #![tactic(auto)]
 
 ghost use Rattle.std.specs.Prelude.{◌≡◌};
+ghost use Rattle.types.specs.Answer.{paper_outcome};
 ghost use Rattle.utf8.specs.Check.{check_of};
-ghost use Rattle.utf8.specs.Answer.{text_outcome, paper_check};
+ghost use Rattle.utf8.specs.Answer.{text_outcome};
 
 mod lead;
 mod plain;
 
-use lead::Lead;
+use lead::Follow;
+use types::Refusal;
 
-// What the check answers.
-#[derive(Clone, Copy)]
-pub enum Checked {
-    Good,
-    // The first place where no well-formed sequence begins.
-    BadAt(usize),
-}
-
-// Whether the text is UTF-8, or the first place where no well-formed sequence begins (10).
-pub fn check(text: &[u8]) -> Checked
-    ensures { paper_check result ≡ text_outcome (check_of text.now) }
+// Whether the text is UTF-8; where not, the refusal has the first place where no well-formed sequence begins (10).
+pub fn check(text: &[u8]) -> Result<(), Refusal>
+    ensures { paper_outcome result ≡ text_outcome (check_of text.now) }
 {
+    // Over sequences, and inside over the bytes that follow, left by label at the first wrong one, as document 01 asks.
     let mut place = 0;
     'sequences: while place < text.len() {
         let first = text[place];
-        if first < 0x80 {
-            place = plain::after_plain(text, place);
-            continue 'sequences;
+        if first.is_ascii() {
+            place += plain::plain_length(&text[place..]);
+            continue;
         }
-        let Lead::Follow(count, first_low, first_high) = lead::lead_of(first) else {
-            break 'sequences;
+        let Some(Follow { count, low, high }) = lead::lead_of(first) else {
+            break;
         };
-        let mut left = count;
-        let mut low = first_low;
-        let mut high = first_high;
-        let mut next = place + 1;
-        while 0 < left {
-            if text.len() <= next {
-                break 'sequences;
-            }
-            let byte = text[next];
-            if byte < low {
-                break 'sequences;
-            }
-            if high < byte {
-                break 'sequences;
-            }
-            low = 0x80;
-            high = 0xBF;
-            left -= 1;
-            next += 1;
+        let rest = &text[place + 1..];
+        if rest.len() < count {
+            break;
         }
-        place = next;
+        let mut lowest = low;
+        let mut highest = high;
+        for byte in &rest[..count] {
+            if *byte < lowest || highest < *byte {
+                break 'sequences;
+            }
+            lowest = 0x80;
+            highest = 0xBF;
+        }
+        place += 1 + count;
     }
     if place < text.len() {
-        Checked::BadAt(place)
+        Err(Refusal::TextNotUtf8(place))
     } else {
-        Checked::Good
+        Ok(())
     }
 }

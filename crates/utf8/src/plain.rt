@@ -1,120 +1,55 @@
 // Bytes below 128, each a sequence by itself, passed many at a time.
-ghost use Rattle.std.specs.Prelude.{◌≡◌, true, ◌+◌, ◌≤◌, ◌<◌, length, get_or};
-ghost use Rattle.utf8.specs.Runs.{PlainTo, LowBytes, eight_of};
+ghost use Rattle.std.specs.Prelude.{◌≡◌, ◌≤◌, length};
+ghost use Rattle.std.specs.List.{prefix_len, list_all};
+ghost use Rattle.std.specs.Char.{is_ascii};
 
-// The place after the bytes below 128 from a place on.
-pub(crate) fn after_plain(text: &[u8], start: usize) -> usize
-    requires { start ≤ length text.now }
-    ensures plain_to { PlainTo text.now start result }
-    ensures bound { result < length text.now → 128 ≤ get_or text.now result 0 }
+// The highest bit of each of eight bytes.
+const HIGH_BITS: u64 = 0x8080_8080_8080_8080;
+
+// How many bytes below 128 the text begins with: by words of eight, then those of the word that stops them, or behind all words.
+pub(crate) fn plain_length(text: &[u8]) -> usize
+    ensures { result ≡ prefix_len is_ascii text.now }
 {
-    let many = by_thirty_two(text, start);
-    let some = by_eight(text, many);
-    one_by_one(text, some)
+    let (words, rest) = text.as_chunks::<8>();
+    let count = plain_words(words);
+    let more = match words.get(count) {
+        Some(word) => plain_bytes(word),
+        None => plain_bytes(rest),
+    };
+    8 * count + more
 }
 
-// The place after the bytes below 128 from a place on, as far as they go by thirty-twos.
-fn by_thirty_two(text: &[u8], start: usize) -> usize
-    requires { start ≤ length text.now }
-    ensures { PlainTo text.now start result }
+// How many bytes below 128 come first, one by one.
+fn plain_bytes(bytes: &[u8]) -> usize
+    ensures value { result ≡ prefix_len is_ascii bytes.now }
+    ensures upper_bound { result ≤ length bytes.now }
 {
-    let mut place = start;
-    while 32 <= text.len() - place {
-        if !plain(eight(text, place)) {
-            return place;
-        }
-        if !plain(eight(text, place + 8)) {
-            return place;
-        }
-        if !plain(eight(text, place + 16)) {
-            return place;
-        }
-        if !plain(eight(text, place + 24)) {
-            return place;
-        }
-        place += 32;
-    }
-    place
+    bytes.iter().take_while(|byte| byte.is_ascii()).count()
 }
 
-// The place after the bytes below 128 from a place on, as far as they go by eights.
-fn by_eight(text: &[u8], start: usize) -> usize
-    requires { start ≤ length text.now }
-    ensures { PlainTo text.now start result }
+// How many words of bytes below 128 come first: four at a time, then one by one.
+fn plain_words(words: &[[u8; 8]]) -> usize
+    ensures value { result ≡ prefix_len (list_all is_ascii) words.now }
+    ensures upper_bound { result ≤ length words.now }
 {
-    let mut place = start;
-    while 8 <= text.len() - place {
-        if !plain(eight(text, place)) {
-            return place;
-        }
-        place += 8;
-    }
-    place
+    let (fours, _) = words.as_chunks::<4>();
+    let many = 4 * fours.iter().take_while(|four| are_plain(four)).count();
+    many + words[many..]
+        .iter()
+        .take_while(|word| is_plain(word))
+        .count()
 }
 
-// The place after the bytes below 128 from a place on, however many they are.
-fn one_by_one(text: &[u8], start: usize) -> usize
-    requires { start ≤ length text.now }
-    ensures plain_to { PlainTo text.now start result }
-    ensures bound { result < length text.now → 128 ≤ get_or text.now result 0 }
+// Whether each byte of four words is below 128.
+fn are_plain(words: &[[u8; 8]; 4]) -> bool
+    ensures { result ≡ list_all (list_all is_ascii) words.now }
 {
-    let mut place = start;
-    while place < text.len() {
-        if 0x7F < text[place] {
-            return place;
-        }
-        place += 1;
-    }
-    place
+    words.iter().all(|word| is_plain(word))
 }
 
-// Whether no byte of a number of eight bytes has its highest bit.
-fn plain(word: u64) -> bool
-    ensures { result ≡ true → LowBytes word }
+// Whether each byte of a word is below 128.
+fn is_plain(word: &[u8; 8]) -> bool
+    ensures { result ≡ list_all is_ascii word.now }
 {
-    if 127 < word % 256 {
-        return false;
-    }
-    if 127 < word / 256 % 256 {
-        return false;
-    }
-    if 127 < word / 65536 % 256 {
-        return false;
-    }
-    if 127 < word / 16777216 % 256 {
-        return false;
-    }
-    if 127 < word / 4294967296 % 256 {
-        return false;
-    }
-    if 127 < word / 1099511627776 % 256 {
-        return false;
-    }
-    if 127 < word / 281474976710656 % 256 {
-        return false;
-    }
-    word / 72057594037927936 < 128
-}
-
-// The eight bytes from a place on as a number, the first the lowest.
-fn eight(text: &[u8], start: usize) -> u64
-    requires { start + 8 ≤ length text.now }
-    ensures { result ≡ eight_of text.now start }
-{
-    let low = wide(text[start])
-        + wide(text[start + 1]) * 256
-        + wide(text[start + 2]) * 65536
-        + wide(text[start + 3]) * 16777216;
-    low + wide(text[start + 4]) * 4294967296
-        + wide(text[start + 5]) * 1099511627776
-        + wide(text[start + 6]) * 281474976710656
-        + wide(text[start + 7]) * 72057594037927936
-}
-
-// A byte as a number of 64 bits.
-fn wide(byte: u8) -> u64
-    ensures value { result ≡ byte }
-    ensures upper_bound { result < 256 }
-{
-    byte as u64
+    u64::from_le_bytes(*word) & HIGH_BITS == 0
 }
