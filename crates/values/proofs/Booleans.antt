@@ -9,6 +9,7 @@ use mathlib.Core.List.{List, []}
 use lib.Dec.{ltb}
 use lib.ListN.{length}
 use borrow.Author.Tests.{lt-ltb, ltb-true, ltb-false}
+use mir.Val.{bool_byte}
 use Rattle.types.specs.Answer.{accepted}
 use Rattle.tags.specs.Item.{boolean_byte}
 use Rattle.values.specs.Boolean.{boolean_under, IsBoolean, is_false, is_true}
@@ -42,3 +43,8 @@ boolean_again (is_true h) l = (omega arith, refl)
 pub boolean_small : (b : Bool) → boolean_byte b ≤ 1
 boolean_small true = omega arith
 boolean_small false = omega arith
+
+-- the language's number for a Boolean is the standard's
+pub same_number : (b : Bool) → bool_byte b ≡ boolean_byte b
+same_number true = refl
+same_number false = refl

@@ -12,7 +12,7 @@ use borrow.Author.Tests.{lt-ltb, le-ltb, ltb-true, ltb-false}
 use Rattle.types.specs.Choice.{if}
 use Rattle.types.specs.Tag.{Number, application, Tag, tag}
 use Rattle.types.specs.Refusal.{Carried, amount, tag_found}
-use Rattle.types.specs.Answer.{Answer, accepted, refused, then, Outcome, passed, stopped}
+use Rattle.types.specs.Answer.{Answer, accepted, refused, then}
 use Rattle.types.proofs.Choices.{either}
 use Rattle.types.proofs.Class.{same_exactly}
 use Rattle.numbers.specs.Integer.{unsigned_value, unsigned_bytes}
@@ -21,7 +21,7 @@ use Rattle.numbers.proofs.Found.{unsigned_found, behind}
 use Rattle.numbers.proofs.Shortest.{unsigned_length_lem}
 use Rattle.numbers.proofs.Least.{length_between}
 use Rattle.tags.specs.Header.{IsTag}
-use Rattle.tags.specs.Reading.{tag_from, same_number, expected_from, expected_number}
+use Rattle.tags.specs.Reading.{tag_from, same_number, expected_from}
 use Rattle.tags.proofs.Exactly.{TagFound, tag_found_lem, tag_read, tag_length}
 use Rattle.tags.proofs.Range.{OrRunsOut, tag_or_run_out}
 use Rattle.tags.proofs.Refusals.{too_long, past_end}
@@ -45,19 +45,6 @@ module _ (len : ℕ) (xs : List ℕ) (place : ℕ) (small : length xs ≤ 65535)
       go false e true f c g = simp (le-ltb 65535 (length xs) small, le-ltb (length xs) place inside, e, f) (other (inr (ltb-true 8 len f)))
       go false e false f true g = simp (le-ltb 65535 (length xs) small, le-ltb (length xs) place inside, e, f, g) (short (omega (arith, ltb-false len 1 e)) (ltb-false 8 len f) (ltb-true (length xs) (place + len) g))
       go false e false f false g = simp (le-ltb 65535 (length xs) small, le-ltb (length xs) place inside, e, f, g) (found _ _ (simp (le-ltb 65535 (length xs) small, le-ltb (length xs) place inside, e, f, g)))
-
--- a tag that was read is the one expected, or is refused, as the check of its number says
-abbrev pub if_passed : Tag → ℕ → Outcome → Answer Tag
-if_passed t next passed = accepted t next
-if_passed t next (stopped n c) = refused n c
-
-pub by_check : (expected : Number) (xs : List ℕ) (place : ℕ) (t : Tag) (next : ℕ) (o : Outcome) → tag_from xs place ≡ accepted t next → o ≡ expected_number expected t → expected_from expected xs place ≡ if_passed t next o
-unfolding expected_from expected_number
-by_check expected xs place t next o e f = simp e (go (same_number t.number expected)) ∙ ap (if_passed t next) (sym f)
-  where
-    go : (b : Bool) → if b (accepted t next) (refused 4 (tag_found t)) ≡ if_passed t next (if b passed (stopped 4 (tag_found t)))
-    go true = refl
-    go false = refl
 
 -- what a tag of application class and number 9 is to be followed by
 module _ (xs : List ℕ) (place : ℕ) where

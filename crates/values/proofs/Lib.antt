@@ -1,4 +1,3 @@
-pub mod Patterns
 pub mod Lent
 pub mod Standing
 pub mod Parts

@@ -20,7 +20,7 @@ use Rattle.numbers.proofs.Found.{fixed_found, fixed_at}
 use Rattle.numbers.proofs.Value.{value_lt}
 use Rattle.numbers.proofs.Low.{low_bytes_stand, low_bytes_of_value}
 use Rattle.values.specs.ObjectId.{ObjectId, id_of, identifier, object_id_under, IsObjectId, object_id_bytes, object_id_writable, ObjectIdWrites}
-use Rattle.values.specs.declared.value.ObjectId as program
+use Rattle.values.specs.declared.object_id.ObjectId as program
 use Rattle.values.proofs.Standing.{StoodOr}
 
 pub object_id_or : (len : ℕ) (xs : List ℕ) (place : ℕ) → StoodOr (λ (p : ℕ). IsObjectId len) xs place (object_id_under len xs place)

@@ -10,7 +10,7 @@ use borrow.Author.Tests.{le-ltb, ltb-false, eqb-true}
 use Rattle.types.specs.Answer.{accepted}
 use Rattle.types.proofs.Choices.{either}
 use Rattle.values.specs.Time.{Time, time_of, time, time_under, IsTime, of_fields, time_bytes}
-use Rattle.values.specs.declared.value.Time as program
+use Rattle.values.specs.declared.time.Time as program
 use Rattle.values.proofs.Standing.{StoodOr, four_bytes, first_byte, later_byte}
 
 -- four bytes are a time, whatever the length is called

@@ -6,7 +6,7 @@ use Rattle.types.specs.Refusal.{amount}
 use Rattle.types.specs.Answer.{Answer, accepted, refused, then}
 use Rattle.types.specs.Writing.{Writable, can, unwritable}
 use Rattle.numbers.specs.Reading.{slice_from}
-use Rattle.values.specs.declared.value.Date as program
+use Rattle.values.specs.declared.date.Date as program
 
 pub record Date : Type 0 where
   pub year : ℕ

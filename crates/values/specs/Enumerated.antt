@@ -1,16 +1,15 @@
 -- An enumerated value under its own tag (ASHRAE 135, 20.2.11): read, written, and which bytes are one.
 -- Assumes nothing.
-use Rattle.std.specs.Prelude.{ℕ, ◌+◌, ◌<◌, ◌≤◌, ◌≡◌, ◌⊎◌, List, ◌++◌, length, drop}
+use Rattle.std.specs.Prelude.{ℕ, ◌+◌, ◌<◌, ◌≤◌, ◌≡◌, ◌⊎◌, List, ◌++◌, length, drop, Result}
 use Rattle.types.specs.Tag.{application, Tag, tag}
 use Rattle.types.specs.Refusal.{Carried, amount, tag_found}
-use Rattle.types.specs.Answer.{Answer, accepted, refused, refusal, then}
+use Rattle.types.specs.Answer.{Answer, accepted, refused, then, paper_read}
 use Rattle.numbers.specs.Integer.{unsigned_value, unsigned_bytes, Bytes}
 use Rattle.tags.specs.Header.{IsTag}
 use Rattle.tags.specs.Reading.{tag_from, expected_from}
 use Rattle.tags.specs.Item.{item_bytes}
 use Rattle.values.specs.Integer.{enumerated_under, IsInteger, IsEnumerated}
-use Rattle.values.specs.declared.enumerated.EnumeratedRead.{EnumeratedRead}
-use Rattle.values.specs.declared.enumerated.EnumeratedRead.TheVariants as r
+use Rattle.types.specs.declared.refusal.Refusal.{Refusal}
 
 -- the enumerated value at a place: application tag 9, another being refused 4, and its content
 unfoldable pub enumerated_from : List ℕ → ℕ → Answer ℕ
@@ -20,9 +19,8 @@ enumerated_from xs place = then (expected_from (application 9) xs place) (λ t n
 abbrev pub enumerated_bytes : ℕ → List ℕ
 enumerated_bytes x = item_bytes (application 9) (unsigned_bytes x)
 
-abbrev pub paper_enumerated : EnumeratedRead → Answer ℕ
-paper_enumerated (r.Enumerated x next) = accepted x next
-paper_enumerated (r.Refused x) = refusal x
+abbrev pub paper_enumerated : Result (ℕ × ℕ) Refusal → Answer ℕ
+paper_enumerated = paper_read
 
 -- bytes that are one whole enumerated value under its tag, said and not computed
 pub data IsEnumeratedItem : ℕ → List ℕ → Type 0 where

@@ -7,7 +7,7 @@ use Rattle.types.specs.Answer.{Answer, accepted, refused, then}
 use Rattle.types.specs.Writing.{Writable, can, unwritable}
 use Rattle.numbers.specs.Integer.{low_bytes, unsigned_value}
 use Rattle.numbers.specs.Reading.{fixed_from}
-use Rattle.values.specs.declared.value.ObjectId as program
+use Rattle.values.specs.declared.object_id.ObjectId as program
 
 pub record ObjectId : Type 0 where
   pub type : ℕ

@@ -1,10 +1,10 @@
 -- Reading a value (ASHRAE 135, 20.2.3 to 20.2.14, with 01's rules): the tag says which case it is, and the case's own file how it is read.
 -- Assumes nothing.
-use Rattle.std.specs.Prelude.{ℕ, List, eqb}
+use Rattle.std.specs.Prelude.{ℕ, List, eqb, Result}
 use Rattle.types.specs.Choice.{if}
 use Rattle.types.specs.Tag.{Number, application, context, opening, closing, Tag}
 use Rattle.types.specs.Refusal.{tag_found}
-use Rattle.types.specs.Answer.{Answer, accepted, refused, refusal, then}
+use Rattle.types.specs.Answer.{Answer, refused, then, paper_by}
 use Rattle.numbers.specs.Reading.{slice_from, unsigned_from, signed_from}
 use Rattle.tags.specs.Reading.{tag_from}
 use Rattle.values.specs.Boolean.{boolean_under}
@@ -16,8 +16,8 @@ use Rattle.values.specs.Date.{date_under}
 use Rattle.values.specs.Time.{time_under}
 use Rattle.values.specs.ObjectId.{ObjectId, object_id_under}
 use Rattle.values.specs.Value.{Value, boolean, real, double, on_date, at_time, object_id, character_string, octet_string, enumerated, bit_string, unsigned_int, signed_int, cased, value_of}
-use Rattle.values.specs.declared.value_read.ValueRead.{ValueRead}
-use Rattle.values.specs.declared.value_read.ValueRead.TheVariants as r
+use Rattle.types.specs.declared.refusal.Refusal.{Refusal}
+use Rattle.values.specs.declared.value.ApplicationDataValue.{ApplicationDataValue}
 
 -- under the Real tag: a Real, or where the length is 8 a Double, which 01 keeps there
 unfoldable pub real_or_double : ℕ → List ℕ → ℕ → Answer Value
@@ -59,6 +59,5 @@ under_tag t xs place = by_number t.number t xs place
 unfoldable pub value_from : List ℕ → ℕ → Answer Value
 value_from xs place = then (tag_from xs place) (λ t next. under_tag t xs next)
 
-abbrev pub paper_value : ValueRead → Answer Value
-paper_value (r.Value x next) = accepted (value_of x) next
-paper_value (r.Refused x) = refusal x
+abbrev pub paper_value : Result (ApplicationDataValue × ℕ) Refusal → Answer Value
+paper_value = paper_by value_of

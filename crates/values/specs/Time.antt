@@ -4,7 +4,7 @@ use Rattle.std.specs.Prelude.{ℕ, ◌+◌, List, [], ◌∷◌, ltb, eqb, lengt
 use Rattle.types.specs.Choice.{if}
 use Rattle.types.specs.Refusal.{amount}
 use Rattle.types.specs.Answer.{Answer, accepted, refused}
-use Rattle.values.specs.declared.value.Time as program
+use Rattle.values.specs.declared.time.Time as program
 
 pub record Time : Type 0 where
   pub hour : ℕ

@@ -6,56 +6,39 @@ ghost use Rattle.values.specs.Reading.{paper_value};
 ghost use Rattle.values.specs.Value.{enumerated, cased};
 
 use crate::value::ApplicationDataValue;
-use crate::value_read::ValueRead;
-use numbers::UnsignedRead;
-use tags::TagRead;
-use types::{ApplicationTagNumber, Outcome, Refusal, TagNumber};
+use types::{ApplicationTagNumber, Refusal, TagNumber};
 
-// An enumerated value and the place after it.
-#[derive(Clone, Copy)]
-pub enum EnumeratedRead {
-    Enumerated(u32, usize),
-    Refused(Refusal),
-}
-
-// The enumerated value at a place, under application tag 9 and no other.
-pub fn decode_application_enumerated(buf: &[u8], place: usize) -> EnumeratedRead
+// The enumerated value at a place, under application tag 9 and no other, and the place after it. (By `decode_expected` it is a line shorter, and that is then no longer compiled into its other caller: docs/DECISIONS.md.)
+#[tactic(auto, unfolding(crate::specs::Enumerated::enumerated_from, tags::specs::Reading::expected_from, tags::specs::Reading::expected_number))]
+pub fn decode_application_enumerated(buf: &[u8], place: usize) -> Result<(u32, usize), Refusal>
     ensures { paper_enumerated result ≡ enumerated_from buf.now place }
 {
     let own = TagNumber::Application(ApplicationTagNumber::Enumerated);
-    match tags::decode(buf, place) {
-        TagRead::Read(tag, next) => match tags::expect_number(tag, own) {
-            Outcome::Passed => enumerated_of(tag.value, buf, next),
-            Outcome::Refused(r) => EnumeratedRead::Refused(r),
-        },
-        TagRead::Refused(r) => EnumeratedRead::Refused(r),
-    }
+    let (tag, next) = tags::decode(buf, place)?;
+    tags::expect_number(tag, own)?;
+    enumerated_of(tag.value, buf, next)
 }
 
 // The enumerated value whose content has this length, if it has 32 bits.
-fn enumerated_of(len: u32, buf: &[u8], place: usize) -> EnumeratedRead
+#[tactic(auto, unfolding(crate::specs::Integer::enumerated_under))]
+fn enumerated_of(len: u32, buf: &[u8], place: usize) -> Result<(u32, usize), Refusal>
     ensures { paper_enumerated result ≡ enumerated_under len buf.now place }
 {
-    match tags::decode_unsigned(len, buf, place) {
-        UnsignedRead::Unsigned(value, next) => {
-            if 4294967295 < value {
-                return EnumeratedRead::Refused(Refusal::EnumeratedTooLarge);
-            }
-            EnumeratedRead::Enumerated(value as u32, next)
-        }
-        UnsignedRead::Refused(r) => EnumeratedRead::Refused(r),
+    let (value, next) = tags::decode_unsigned(len, buf, place)?;
+    match u32::try_from(value) {
+        Ok(value) => Ok((value, next)),
+        Err(_) => Err(Refusal::EnumeratedTooLarge),
     }
 }
 
 // The same as a value.
-pub(crate) fn read_enumerated(len: u32, buf: &[u8], place: usize) -> ValueRead
+pub(crate) fn read_enumerated(
+    len: u32,
+    buf: &[u8],
+    place: usize,
+) -> Result<(ApplicationDataValue, usize), Refusal>
     ensures { paper_value result ≡ cased enumerated (enumerated_under len buf.now place) }
 {
-    match enumerated_of(len, buf, place) {
-        EnumeratedRead::Enumerated(value, next) => ValueRead::Value(
-            ApplicationDataValue::Enumerated(value),
-            next,
-        ),
-        EnumeratedRead::Refused(r) => ValueRead::Refused(r),
-    }
+    let (value, next) = enumerated_of(len, buf, place)?;
+    Ok((ApplicationDataValue::Enumerated(value), next))
 }

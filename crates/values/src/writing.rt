@@ -1,87 +1,74 @@
-// Values written at a place of a lent buffer, case by case.
-ghost use Rattle.std.specs.Prelude.{◌≡◌, ◌≤◌, length};
-ghost use Rattle.types.specs.Answer.{paper_outcome};
-ghost use Rattle.types.specs.Writing.{paper_written, can, left, writing};
+// Values written at a place of a lent buffer.
+ghost use Rattle.std.specs.Prelude.{◌≡◌, ◌∷◌, ◌≤◌, length};
+ghost use Rattle.types.specs.Tag.{application, application_of, tag};
+ghost use Rattle.types.specs.Writing.{paper_written, left};
+ghost use Rattle.tags.specs.Item.{boolean_byte, item_to};
+ghost use Rattle.tags.specs.Writing.{tag_to};
 ghost use Rattle.values.specs.Value.{value_of};
-ghost use Rattle.values.specs.Writing.{writable_value, outcome_of, value_bytes, value_to};
+ghost use Rattle.values.specs.Writing.{value_to};
 
-use crate::bits::{bits_writable, write_bits};
-use crate::boolean::write_boolean;
-use crate::date::{date_writable, write_date};
-use crate::object_id::{object_id_writable, write_object_id};
-use crate::octets::write_octets;
-use crate::real::{write_double, write_real};
-use crate::text::{text_writable, write_text};
-use crate::time::write_time;
 use crate::value::ApplicationDataValue;
-use types::{Outcome, Refusal, Written};
+use types::{ApplicationTagNumber, Refusal, Tag, TagNumber};
 
 // Writes a value; the content of text, octets and bits is the whole lent slice.
-pub fn encode(value: ApplicationDataValue, content: &[u8], buf: &mut [u8], place: usize) -> Written
+#[tactic(auto, using(crate::proofs::Fits::passed_can, crate::proofs::Fits::stopped_cannot), unfolding(crate::specs::Writing::value_to, types::specs::Writing::writing, types::specs::Writing::write_answer))]
+pub fn encode(
+    value: ApplicationDataValue,
+    content: &[u8],
+    buf: &mut [u8],
+    place: usize,
+) -> Result<usize, Refusal>
     ensures { left (paper_written result) buf.new ≡ value_to (value_of value) content.now buf.old place }
 {
     if 65535 < buf.len() {
-        return Written::Refused(Refusal::BufferTooLong(buf.len()));
+        return Err(Refusal::BufferTooLong(buf.len()));
     }
     if 65535 < content.len() {
-        return Written::Refused(Refusal::BufferTooLong(content.len()));
+        return Err(Refusal::BufferTooLong(content.len()));
     }
     if buf.len() < place {
-        return Written::Refused(Refusal::PlacePastEnd(place));
+        return Err(Refusal::PlacePastEnd(place));
     }
-    match writable(value, content) {
-        Outcome::Passed => write(value, content, buf, place),
-        Outcome::Refused(r) => Written::Refused(r),
-    }
+    value.writable(content)?;
+    value.write(content, buf, place)
 }
 
-// Whether a value can be written at all.
-fn writable(value: ApplicationDataValue, content: &[u8]) -> Outcome
-    ensures { paper_outcome result ≡ outcome_of (writable_value (value_of value) content.now) }
+// Writes the lent bytes under the tag of this name. (Three functions ask that they are not too long: a type of such slices would be no plainer.)
+#[tactic(auto, using(crate::proofs::Lent::lent_passed))]
+pub(crate) fn write_under(
+    name: ApplicationTagNumber,
+    content: &[u8],
+    buf: &mut [u8],
+    place: usize,
+) -> Result<usize, Refusal>
+    requires { length content.now ≤ 65535 }
+    ensures { left (paper_written result) buf.new ≡ item_to (application (application_of name)) content.now buf.old place }
 {
-    match value {
-        ApplicationDataValue::Boolean(_) => Outcome::Passed,
-        ApplicationDataValue::Real(_) => Outcome::Passed,
-        ApplicationDataValue::Double(_) => Outcome::Passed,
-        ApplicationDataValue::Date(date) => date_writable(date),
-        ApplicationDataValue::Time(_) => Outcome::Passed,
-        ApplicationDataValue::ObjectId(id) => object_id_writable(id),
-        ApplicationDataValue::CharacterString { place: _, len: _ } => text_writable(content),
-        ApplicationDataValue::OctetString { place: _, len: _ } => Outcome::Passed,
-        ApplicationDataValue::Enumerated(_) => Outcome::Passed,
-        ApplicationDataValue::BitString {
-            unused_bits,
-            place: _,
-            len: _,
-        } => bits_writable(unused_bits, content),
-        ApplicationDataValue::UnsignedInt(_) => Outcome::Passed,
-        ApplicationDataValue::SignedInt(_) => Outcome::Passed,
-    }
+    tags::encode_item(TagNumber::Application(name), 0, 0, content, buf, place)
 }
 
-// Writes a value that can be written.
-fn write(value: ApplicationDataValue, content: &[u8], buf: &mut [u8], place: usize) -> Written
-    requires { (writable_value (value_of value) content.now ≡ can) × (length content.now ≤ 65535) }
-    ensures { left (paper_written result) buf.new ≡ writing 0 can (value_bytes (value_of value) content.now) buf.old place }
+// Writes the lent bytes behind a first one, under the tag of this name.
+#[tactic(auto, using(crate::proofs::Lent::lent_passed))]
+pub(crate) fn write_behind(
+    first: u8,
+    name: ApplicationTagNumber,
+    content: &[u8],
+    buf: &mut [u8],
+    place: usize,
+) -> Result<usize, Refusal>
+    requires { length content.now ≤ 65535 }
+    ensures { left (paper_written result) buf.new ≡ item_to (application (application_of name)) (first ∷ content.now) buf.old place }
 {
-    match value {
-        ApplicationDataValue::Boolean(b) => write_boolean(b, buf, place),
-        ApplicationDataValue::Real(x) => write_real(x, buf, place),
-        ApplicationDataValue::Double(x) => write_double(x, buf, place),
-        ApplicationDataValue::Date(date) => write_date(date, buf, place),
-        ApplicationDataValue::Time(time) => write_time(time, buf, place),
-        ApplicationDataValue::ObjectId(id) => write_object_id(id, buf, place),
-        ApplicationDataValue::CharacterString { place: _, len: _ } => write_text(
-            content, buf, place,
-        ),
-        ApplicationDataValue::OctetString { place: _, len: _ } => write_octets(content, buf, place),
-        ApplicationDataValue::Enumerated(x) => tags::encode_application_enumerated(x, buf, place),
-        ApplicationDataValue::BitString {
-            unused_bits,
-            place: _,
-            len: _,
-        } => write_bits(unused_bits, content, buf, place),
-        ApplicationDataValue::UnsignedInt(x) => tags::encode_application_unsigned(x, buf, place),
-        ApplicationDataValue::SignedInt(x) => tags::encode_application_signed(x, buf, place),
-    }
+    let number = TagNumber::Application(name);
+    tags::encode_item(number, u64::from(first), 1, content, buf, place)
+}
+
+// Writes a Boolean, which is its tag alone.
+#[tactic(auto, using(tags::proofs::Begun::begun_alone, crate::proofs::Booleans::same_number))]
+pub(crate) fn write_boolean(value: bool, buf: &mut [u8], place: usize) -> Result<usize, Refusal>
+    ensures { left (paper_written result) buf.new ≡ tag_to (tag (application 1) (boolean_byte value)) buf.old place }
+{
+    let number = TagNumber::Application(ApplicationTagNumber::Boolean);
+    let value = u32::from(value);
+    tags::begin(Tag { number, value }, 0, buf, place)
 }
