@@ -7,12 +7,14 @@ use mathlib.Core.Bool.{Bool, true, false}
 use mathlib.Core.List.{List, [], ◌∷◌}
 use lib.Dec.{eqb}
 use borrow.Author.Tests.{eqb-true, eqb-false}
+use Rattle.std.specs.declared.option.Option.{Option}
+use Rattle.std.specs.declared.option.Option.TheVariants.{Some, None}
 use Rattle.types.specs.Choice.{if}
 use Rattle.types.specs.Refusal.{amount}
 use Rattle.types.specs.Answer.{Answer, refused}
 use Rattle.types.proofs.Single.{told_apart}
 use Rattle.headers.specs.Header.{Kind, request, simple, complex, segment, error, reject, abort, Header, row_of, kinds}
-use Rattle.headers.specs.Reading.{tells, kind_from, first_of, header_after}
+use Rattle.headers.specs.Reading.{tells, kind_from, first_of, first_told, header_after}
 use Rattle.headers.specs.Bytes.{TellsKind}
 
 -- the test of a row says whether the control byte tells the kind
@@ -80,3 +82,28 @@ after_told control xs place k w =
 
 pub after_none : (control : ℕ) (xs : List ℕ) (place : ℕ) → ((k : Kind) → TellsKind k control → ⊥) → header_after control xs place ≡ refused 17 (amount control)
 after_none control xs place n = after_cases control xs place (λ a. a ≡ refused 17 (amount control)) (λ k w. absurd (n k w)) (λ m. refl)
+
+-- what follows a control byte, by the first kind that it tells
+abbrev by_first : Option Kind → ℕ → List ℕ → ℕ → Answer Header
+by_first None control xs place = refused 17 (amount control)
+by_first (Some k) control xs place = kind_from k ((row_of k).held control) xs place
+
+by_test : (b : Bool) (k : Kind) (t : Option Kind) (control : ℕ) (xs : List ℕ) (place : ℕ) → if b (kind_from k ((row_of k).held control) xs place) (by_first t control xs place) ≡ by_first (if b (Some k) t) control xs place
+by_test true k t control xs place = refl
+by_test false k t control xs place = refl
+
+of_first : (ks : List Kind) (control : ℕ) (xs : List ℕ) (place : ℕ) → first_of ks control xs place ≡ by_first (first_told ks control) control xs place
+of_first [] control xs place = refl
+of_first (k ∷ ks) control xs place =
+    ap (if (tells (row_of k) control) (kind_from k ((row_of k).held control) xs place)) (of_first ks control xs place)
+    ∙ by_test (tells (row_of k) control) k (first_told ks control) control xs place
+
+-- so the header behind it is read by the first of the seven that it tells
+pub after_first : (k : Kind) (control : ℕ) (xs : List ℕ) (place : ℕ) → Some k ≡ first_told kinds control → header_after control xs place ≡ kind_from k ((row_of k).held control) xs place
+unfolding header_after
+after_first k control xs place e = of_first kinds control xs place ∙ ap (λ (t : Option Kind). by_first t control xs place) (sym e)
+
+-- and 17 is given where it tells none
+pub after_no_kind : (control : ℕ) (xs : List ℕ) (place : ℕ) → None ≡ first_told kinds control → header_after control xs place ≡ refused 17 (amount control)
+unfolding header_after
+after_no_kind control xs place e = of_first kinds control xs place ∙ ap (λ (t : Option Kind). by_first t control xs place) (sym e)

@@ -1,5 +1,7 @@
 pub mod Writable
-pub mod Stored
+pub mod Filled
+pub mod Tested
+pub mod Flags
 pub mod Row
 pub mod Following
 pub mod Control

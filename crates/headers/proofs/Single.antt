@@ -1,21 +1,19 @@
 -- No two kinds, no two headers and no two answers of the reader are the same on paper, so each promise admits a single one.
 -- Assumes nothing.
-use mathlib.Core.Path.{◌≡◌, refl, ap}
+use mathlib.Core.Path.{◌≡◌, refl}
 use Prim.Native.Nat.{ℕ}
 use mathlib.Core.Bool.{true, false}
 use lib.Dec.{eqb}
 use lib.ListN.{get_or}
-use Rattle.types.specs.Refusal.{row}
-use Rattle.types.specs.Answer.{Answer, accepted, refused}
-use Rattle.types.proofs.Single.{told_apart, program_refusal, refusal_back}
+use Rattle.std.specs.declared.result.Result.{Result}
+use Rattle.types.proofs.Single.{told_apart, single_by}
+use Rattle.types.specs.declared.refusal.Refusal.{Refusal}
 use Rattle.headers.specs.Header.{Kind, request, simple, complex, segment, error, reject, abort, Header, header_of, kind_of, field_numbers}
 use Rattle.headers.specs.Reading.{paper_header}
 use Rattle.headers.specs.declared.header.Header as program
 use Rattle.headers.specs.declared.header.Header.TheVariants as h
 use Rattle.headers.specs.declared.kind.Kind as kind
 use Rattle.headers.specs.declared.kind.Kind.TheVariants as k
-use Rattle.headers.specs.declared.reading.HeaderRead.{HeaderRead}
-use Rattle.headers.specs.declared.reading.HeaderRead.TheVariants as r
 
 abbrev program_kind : Kind → kind.Kind
 program_kind request = k.Request
@@ -67,14 +65,6 @@ header_back_lem (h.Abort false id reason) = refl
 pub single_header : (x y : program.Header) → header_of x ≡ header_of y → x ≡ y
 single_header = told_apart header_of program_header header_back_lem
 
-abbrev read : Answer Header → HeaderRead
-read (accepted x next) = r.Read (program_header x) next
-read (refused k c) = r.Refused (program_refusal (row k c))
-
-read_back : (x : HeaderRead) → read (paper_header x) ≡ x
-read_back (r.Read x next) = ap (λ (y : program.Header). r.Read y next) (header_back_lem x)
-read_back (r.Refused x) = ap r.Refused (refusal_back x)
-
 -- no two answers of the reader are
-pub single_header_read : (x y : HeaderRead) → paper_header x ≡ paper_header y → x ≡ y
-single_header_read = told_apart paper_header read read_back
+pub single_header_read : (x y : Result (program.Header × ℕ) Refusal) → paper_header x ≡ paper_header y → x ≡ y
+single_header_read = single_by header_of program_header header_back_lem

@@ -2,16 +2,17 @@
 -- Assumes nothing.
 use mathlib.Core.Path.{◌≡◌, refl, ap₂}
 use mathlib.Core.Logic.{◌↔◌}
-use Prim.Native.Nat.{ℕ}
+use Prim.Native.Nat.{ℕ, ◌≤◌}
 use native.Mathlib.Omega.{arith}
 use mathlib.Core.List.{List, [], ◌∷◌}
 use lib.Dec.{ltb}
+use borrow.Author.Tests.{le-ltb}
 use Rattle.types.specs.Choice.{if}
 use Rattle.types.specs.Refusal.{amount}
 use Rattle.types.specs.Writing.{Writable, can, cannot, unwritable}
 use Rattle.types.proofs.Accepted.{limit_exactly}
 use Rattle.headers.specs.Header.{FieldValue, nibbles, number, choice, flag, enumeration}
-use Rattle.headers.specs.Writing.{value_writable, Carriable, AllCarriable, both, writable}
+use Rattle.headers.specs.Writing.{choice_writable, value_writable, Carriable, AllCarriable, both, writable}
 
 -- what comes last decides alone
 pub both_can : (w : Writable) → w ≡ both w can
@@ -43,3 +44,7 @@ fields_exactly (v ∷ vs) =
       λ e. let p = both_parts (value_writable v) (writable vs) e in (f.0 p.0, g.0 p.1),
       λ h. ap₂ both (f.1 h.0) (g.1 h.1),
     )
+
+-- where both nibbles of a request have four bits, its choice decides
+pub request_writable : (segments size id c : ℕ) → segments ≤ 15 → size ≤ 15 → writable (nibbles segments size ∷ number id ∷ choice c ∷ []) ≡ both (choice_writable c) can
+request_writable segments size id c p q = simp (le-ltb 15 segments p, le-ltb 15 size q)

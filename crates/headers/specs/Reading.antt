@@ -1,16 +1,14 @@
 -- Reading a header (ASHRAE 135, 20.1, as 01 restates it): one rule for the fixed bytes of every row and one for the enumerated values behind them, and the maps from the program's answers.
 -- Assumes nothing.
-use Rattle.std.specs.Prelude.{ℕ, zero, suc, ◌/◌, ◌%◌, Bool, true, false, List, [], ◌∷◌, ◌++◌, ltb, eqb}
+use Rattle.std.specs.Prelude.{ℕ, zero, suc, ◌/◌, ◌%◌, Bool, true, false, List, [], ◌∷◌, ◌++◌, ltb, eqb, Option, None, Some, Result}
 use Rattle.types.specs.Choice.{if}
 use Rattle.types.specs.Refusal.{amount}
-use Rattle.types.specs.Answer.{Answer, accepted, refused, refusal, then}
+use Rattle.types.specs.Answer.{Answer, accepted, refused, paper_by, then}
 use Rattle.numbers.specs.Reading.{byte_from}
 use Rattle.values.specs.Enumerated.{enumerated_from}
 use Rattle.headers.specs.Header.{Kind, Field, two_nibbles, one_number, one_choice, FieldValue, nibbles, number, choice, enumeration, Header, header, HeaderRow, row_of, kinds, header_of}
-use Rattle.headers.specs.declared.reading.HeaderRead.{HeaderRead}
-use Rattle.headers.specs.declared.reading.HeaderRead.TheVariants as r
-use Rattle.headers.specs.declared.reading.PairRead.{PairRead}
-use Rattle.headers.specs.declared.reading.PairRead.TheVariants as p
+use Rattle.headers.specs.declared.header.Header as program
+use Rattle.types.specs.declared.refusal.Refusal.{Refusal}
 
 -- what a byte carries; a service choice goes to 33
 abbrev pub told : Field → ℕ → ℕ → Answer FieldValue
@@ -55,6 +53,11 @@ abbrev pub first_of : List Kind → ℕ → List ℕ → ℕ → Answer Header
 first_of [] control xs place = refused 17 (amount control)
 first_of (k ∷ ks) control xs place = if (tells (row_of k) control) (kind_from k ((row_of k).held control) xs place) (first_of ks control xs place)
 
+-- the first kind that a control byte tells, if it tells one
+abbrev pub first_told : List Kind → ℕ → Option Kind
+first_told [] control = None
+first_told (k ∷ ks) control = if (tells (row_of k) control) (Some k) (first_told ks control)
+
 unfoldable pub header_after : ℕ → List ℕ → ℕ → Answer Header
 header_after control xs place = first_of kinds control xs place
 
@@ -62,14 +65,11 @@ header_after control xs place = first_of kinds control xs place
 unfoldable pub header_from : List ℕ → ℕ → Answer Header
 header_from xs place = then (byte_from xs place) (λ control after. header_after control xs after)
 
-abbrev pub paper_header : HeaderRead → Answer Header
-paper_header (r.Read h next) = accepted (header_of h) next
-paper_header (r.Refused x) = refusal x
+abbrev pub paper_header : Result (program.Header × ℕ) Refusal → Answer Header
+paper_header = paper_by header_of
 
-abbrev pub paper_pair : PairRead → Answer (List FieldValue)
-paper_pair (p.Pair id c next) = accepted (number id ∷ choice c ∷ []) next
-paper_pair (p.Refused x) = refusal x
+abbrev pub paper_pair : Result ((ℕ × ℕ) × ℕ) Refusal → Answer (List FieldValue)
+paper_pair = paper_by (λ p. number p.0 ∷ choice p.1 ∷ [])
 
-abbrev pub paper_numbers : PairRead → Answer (List FieldValue)
-paper_numbers (p.Pair a b next) = accepted (number a ∷ number b ∷ []) next
-paper_numbers (p.Refused x) = refusal x
+abbrev pub paper_numbers : Result ((ℕ × ℕ) × ℕ) Refusal → Answer (List FieldValue)
+paper_numbers = paper_by (λ p. number p.0 ∷ number p.1 ∷ [])

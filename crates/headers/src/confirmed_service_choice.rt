@@ -1,6 +1,11 @@
 // The confirmed service choices; there is none above the last. The oracle holds the names to the given Rust's enum.
-ghost use Rattle.std.specs.Prelude.{◌≡◌};
+// Constants and no enum: a header holds any byte, and `encode` refuses one above the last by 11, so no type may rule it out.
+ghost use Rattle.std.specs.Prelude.{◌≡◌, Ok, Err, ltb};
+ghost use Rattle.types.specs.Choice.{if};
+ghost use Rattle.types.specs.declared.refusal.Refusal.TheVariants.{ServiceChoiceTooLarge};
 ghost use Rattle.headers.specs.Choice.{service_choices};
+
+use types::Refusal;
 
 pub const ACKNOWLEDGE_ALARM: u8 = 0;
 
@@ -110,4 +115,14 @@ pub fn service_choices() -> [u8; 34]
         AUDIT_NOTIFICATION,
         AUDIT_LOG_QUERY,
     ]
+}
+
+// A number that may stand where a service choice does: refused 11 where it is above the last.
+pub fn allowed(choice: u8) -> Result<u8, Refusal>
+    ensures { result ≡ if (ltb 33 choice) (Err (ServiceChoiceTooLarge choice)) (Ok choice) }
+{
+    if AUDIT_LOG_QUERY < choice {
+        return Err(Refusal::ServiceChoiceTooLarge(choice));
+    }
+    Ok(choice)
 }

@@ -1,9 +1,7 @@
 // The headers of confirmed services, by their fields.
-ghost use Rattle.std.specs.Prelude.{◌≡◌, [], ◌∷◌, ◌≤◌, ◌<◌, length};
-ghost use Rattle.headers.specs.declared.kind.Kind.TheVariants.{Error};
+ghost use Rattle.std.specs.Prelude.{◌≡◌, ◌≤◌, length};
 ghost use Rattle.headers.specs.Header.{kind_of, header_of, field_numbers};
 ghost use Rattle.types.specs.Padded.{padded};
-ghost use Rattle.tags.specs.Item.{boolean_byte};
 
 use crate::kind::Kind;
 
@@ -50,6 +48,7 @@ pub enum Header {
 }
 
 // A header by its kind and the numbers of its fields in their order: the first `count` of four, the rest 0.
+// There is no heap, so the fields stand in an array, and how many of it are the header's beside it.
 #[derive(Clone, Copy)]
 pub struct Description {
     pub kind: Kind,
@@ -71,65 +70,56 @@ impl Header {
                 max_adpu: size,
                 invoke_id: id,
                 service_choice: choice,
-            } => of_bytes(Kind::Request, 4, segments, size, id, choice),
+            } => Description::of_bytes(Kind::Request, &[segments, size, id, choice]),
             Header::SimpleAck {
-                invoke_id: id,
-                service_choice: choice,
-            } => of_bytes(Kind::Simple, 2, id, choice, 0, 0),
+                invoke_id,
+                service_choice,
+            } => Description::of_bytes(Kind::Simple, &[invoke_id, service_choice]),
             Header::ComplexAck {
-                invoke_id: id,
-                service_choice: choice,
-            } => of_bytes(Kind::Complex, 2, id, choice, 0, 0),
+                invoke_id,
+                service_choice,
+            } => Description::of_bytes(Kind::Complex, &[invoke_id, service_choice]),
             Header::SegmentAck {
                 invoke_id: id,
                 sequence_num: sequence,
                 proposed_window_size: window,
-            } => of_bytes(Kind::Segment, 3, id, sequence, window, 0),
+            } => Description::of_bytes(Kind::Segment, &[id, sequence, window]),
             Header::ConfirmedBacnetError {
                 invoke_id: id,
                 service_choice: choice,
                 error_class: class,
                 error_code: code,
-            } => of_error(id, choice, class, code),
-            Header::Reject {
-                invoke_id: id,
-                reason,
-            } => of_bytes(Kind::Reject, 2, id, reason, 0, 0),
+            } => Description {
+                kind: Kind::Error,
+                fields: [u32::from(id), u32::from(choice), class, code],
+                count: 4,
+            },
+            Header::Reject { invoke_id, reason } => {
+                Description::of_bytes(Kind::Reject, &[invoke_id, reason])
+            }
             Header::Abort {
                 server,
-                invoke_id: id,
+                invoke_id,
                 reason,
-            } => of_bytes(Kind::Abort, 3, bit(server), id, reason, 0),
+            } => Description::of_bytes(Kind::Abort, &[u8::from(server), invoke_id, reason]),
         }
     }
 }
 
-// A description whose fields are bytes, of which the first `count` are the header's.
-fn of_bytes(kind: Kind, count: usize, a: u8, b: u8, c: u8, d: u8) -> Description
-    ensures { (result.kind ≡ kind) × (result.fields ≡ a ∷ b ∷ c ∷ d ∷ []) × (result.count ≡ count) }
-{
-    Description {
-        kind,
-        fields: [a as u32, b as u32, c as u32, d as u32],
-        count,
+impl Description {
+    // The description of a kind whose fields are bytes, four at the most.
+    fn of_bytes(kind: Kind, bytes: &[u8]) -> Self
+        requires { length bytes.now ≤ 4 }
+        ensures { (result.kind ≡ kind) × (result.fields ≡ padded 4 bytes.now) × (result.count ≡ length bytes.now) }
+    {
+        let mut fields = [0; 4];
+        for (i, byte) in bytes.iter().enumerate() {
+            fields[i] = u32::from(*byte);
+        }
+        Self {
+            kind,
+            fields,
+            count: bytes.len(),
+        }
     }
-}
-
-// The description of an error.
-fn of_error(id: u8, choice: u8, class: u32, code: u32) -> Description
-    ensures { (result.kind ≡ Error) × (result.fields ≡ id ∷ choice ∷ class ∷ code ∷ []) × (result.count ≡ 4) }
-{
-    Description {
-        kind: Kind::Error,
-        fields: [id as u32, choice as u32, class, code],
-        count: 4,
-    }
-}
-
-// The bit that stands for a flag.
-pub(crate) fn bit(set: bool) -> u8
-    ensures value { result ≡ boolean_byte set }
-    ensures upper_bound { result < 2 }
-{
-    if set { 1 } else { 0 }
 }

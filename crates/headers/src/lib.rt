@@ -10,5 +10,5 @@ mod writing;
 pub use confirmed_service_choice::service_choices;
 pub use header::{Description, Header};
 pub use kind::{Kind, KindRow};
-pub use reading::{HeaderRead, decode};
+pub use reading::decode;
 pub use writing::encode;
