@@ -1,12 +1,15 @@
 -- No two states and no two answers are the same on paper, so each promise admits a single one.
 -- Assumes nothing.
 use Rattle.std.proofs.Common.{◌≡◌, refl, ap}
+use Rattle.std.specs.declared.result.Result.{Result}
+use Rattle.std.specs.declared.result.Result.TheVariants.{Ok, Err}
 use Rattle.types.specs.Refusal.{row}
+use Rattle.types.specs.declared.refusal.Refusal.{Refusal}
 use Rattle.types.proofs.Single.{told_apart, program_refusal, refusal_back}
 use Rattle.segments.specs.State.{State, state_of}
 use Rattle.segments.specs.Taking.{TakeAnswer, more, finished, refused, paper_taken}
 use Rattle.segments.specs.declared.state.State as program
-use Rattle.segments.specs.declared.taking.Taken as program-taken
+use Rattle.segments.specs.declared.taking.Taken.{Taken}
 use Rattle.segments.specs.declared.taking.Taken.TheVariants as t
 
 abbrev pub program_state : State → program.State
@@ -19,16 +22,16 @@ state_back x = refl
 pub single_state : (x y : program.State) → state_of x ≡ state_of y → x ≡ y
 single_state = told_apart state_of program_state state_back
 
-abbrev taken : TakeAnswer → program-taken.Taken
-taken (more s) = t.More (program_state s)
-taken (finished s) = t.Finished (program_state s)
-taken (refused k c) = t.Refused (program_refusal (row k c))
+abbrev taken : TakeAnswer → Result Taken Refusal
+taken (more s) = Ok (t.More (program_state s))
+taken (finished s) = Ok (t.Finished (program_state s))
+taken (refused k c) = Err (program_refusal (row k c))
 
-taken_back : (x : program-taken.Taken) → taken (paper_taken x) ≡ x
-taken_back (t.More x) = ap t.More (state_back x)
-taken_back (t.Finished x) = ap t.Finished (state_back x)
-taken_back (t.Refused x) = ap t.Refused (refusal_back x)
+taken_back : (x : Result Taken Refusal) → taken (paper_taken x) ≡ x
+taken_back (Ok (t.More x)) = refl
+taken_back (Ok (t.Finished x)) = refl
+taken_back (Err x) = ap Err (refusal_back x)
 
 -- no two answers are
-pub single_taken : (x y : program-taken.Taken) → paper_taken x ≡ paper_taken y → x ≡ y
+pub single_taken : (x y : Result Taken Refusal) → paper_taken x ≡ paper_taken y → x ≡ y
 single_taken = told_apart paper_taken taken taken_back

@@ -1,12 +1,14 @@
 -- What taking one frame answers and leaves (document 02, K9: its refusals in their order), and the maps from the program's answers.
 -- Assumes nothing.
-use Rattle.std.specs.Prelude.{ℕ, ◌+◌, ◌%◌, Bool, true, false, not, List, length, ◌==◌, nat_lt}
+use Rattle.std.specs.Prelude.{ℕ, ◌+◌, ◌%◌, Bool, true, false, not, List, length, ◌==◌, nat_lt, Result, Ok, Err}
 use Rattle.types.specs.Choice.{if}
 use Rattle.types.specs.Refusal.{Carried, amount, table}
 use Rattle.types.specs.Answer.{Outcome, passed, stopped}
-use Rattle.types.specs.Writing.{over}
+use Rattle.types.specs.Answer as answer
+use Rattle.types.specs.Writing.{Left, left, can, over, writing}
 use Rattle.segments.specs.State.{State, state, state_of}
 use Rattle.segments.specs.Segment.{control_of, invoke_id_of, sequence_of, window_of, choice_of, service_part, tells_segment, more_follow}
+use Rattle.types.specs.declared.refusal.Refusal.{Refusal}
 use Rattle.segments.specs.declared.taking.Taken as program
 use Rattle.segments.specs.declared.taking.Taken.TheVariants as t
 
@@ -56,6 +58,10 @@ joining s f xs =
     if (nat_lt (length xs) (s.held + length (service_part f))) (after (refused 13 (amount (length (service_part f)))) xs)
     (after (answer_then f (s.held + length (service_part f))) (over xs s.held (service_part f)))
 
+-- a part put behind so many bytes held, on the way there: where more are held than the buffer has there is no room, and else it is a write
+abbrev pub put_behind : (held : ℕ) → List ℕ → List ℕ → Left
+put_behind held part xs = if (nat_lt (length xs) held) (left (answer.refused 13 (amount (length part))) xs) (writing (length part) can part xs held)
+
 abbrev pub after_outcome : List ℕ → Outcome → After → After
 after_outcome xs passed a = a
 after_outcome xs (stopped n c) a = after (refused n c) xs
@@ -69,7 +75,7 @@ takes s f xs =
     (if (nat_lt (length f) 5) (after (refused 3 (amount (length f))) xs)
     (after_outcome xs (as_due s f) (joining s f xs)))))
 
-abbrev pub paper_taken : program.Taken → TakeAnswer
-paper_taken (t.More s) = more (state_of s)
-paper_taken (t.Finished s) = finished (state_of s)
-paper_taken (t.Refused r) = refused (table r).number (table r).carries
+abbrev pub paper_taken : Result program.Taken Refusal → TakeAnswer
+paper_taken (Ok (t.More s)) = more (state_of s)
+paper_taken (Ok (t.Finished s)) = finished (state_of s)
+paper_taken (Err r) = refused (table r).number (table r).carries

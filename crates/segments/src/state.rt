@@ -1,6 +1,10 @@
 // What is kept between two frames of an answer in segments.
 ghost use Rattle.std.specs.Prelude.{◌≡◌};
 ghost use Rattle.segments.specs.State.{first_state, state_of};
+ghost use Rattle.types.specs.Writing.{left, paper_written};
+ghost use Rattle.segments.specs.Taking.{same_answer, put_behind};
+
+use types::Refusal;
 
 // Whether a frame was taken, and whether the last one; the first frame's invoke id and service choice; the sequence number due; and how many bytes are held at the buffer's start.
 // The numbers are as wide as those that a caller in C lends, so that each is compared as it is: one that is no byte is no frame's.
@@ -28,11 +32,21 @@ impl State {
             held: 0,
         }
     }
-}
 
-// A frame's byte, as wide as the numbers of a state.
-pub(crate) fn wide(byte: u8) -> u64
-    ensures { result ≡ byte }
-{
-    byte as u64
+    // Whether an invoke id and a service choice are those of the first frame, where there was one.
+    pub(crate) fn is_of(self, id: u8, choice: u8) -> bool
+        ensures { result ≡ same_answer (state_of self) id choice }
+    {
+        !self.begun || u64::from(id) == self.id && u64::from(choice) == self.choice
+    }
+
+    // Puts a part behind the bytes held, and answers how many are held then: 13 carries its length where it has no room, or more are held than the buffer has.
+    pub(crate) fn put(self, part: &[u8], buf: &mut [u8]) -> Result<usize, Refusal>
+        ensures { left (paper_written result) buf.new ≡ put_behind self.held part.now buf.old }
+    {
+        if buf.len() < self.held {
+            return Err(Refusal::NoRoom(part.len()));
+        }
+        numbers::extend_from_slice(part, buf, self.held)
+    }
 }
