@@ -3,46 +3,22 @@
 use mathlib.Core.Path.{◌≡◌, refl, ◌∙◌, sym}
 use mathlib.Core.Bool.{Bool, true, false}
 use mathlib.Core.List.{List, [], ◌∷◌}
-use Prim.Native.Nat.{ℕ, zero, suc, ◌+◌, ◌-◌, ◌*◌, ◌≤◌, ◌<◌}
+use Prim.Native.Nat.{ℕ, zero, suc, ◌+◌, ◌*◌, ◌≤◌, ◌<◌}
 use native.Mathlib.Omega.{arith}
 use lib.Dec.{ltb, eqb}
 use lib.ListN.{length, drop, get_or, length-take}
-use lib.Seq.{drop-cons, take_all, length-take-le}
+use lib.Seq.{take_all, length-take-le}
 use borrow.Author.Tests.{lt-ltb, le-ltb, ltb-false, eq-eqb, ne_eqb, eqb-true, eqb-false}
+use Rattle.std.specs.Prelude.{Option, Some, None}
 use Rattle.types.specs.Choice.{if}
 use Rattle.types.proofs.Choices.{either}
-use Rattle.lines.specs.Hexadecimal.{most_bytes, most_digits, nibble_of, pairs, leading, is_frame}
+use Rattle.lines.specs.Hexadecimal.{most_bytes, most_digits, nibble_of, digit_of, pairs, leading, is_frame}
 use Rattle.lines.specs.Lines.{until_newline}
 
--- the ranges of bytes
-module _ (c : ℕ) where
-  pub before_decimal : c < 48 → nibble_of c ≡ 16
-  unfolding nibble_of
-  before_decimal h = simp (lt-ltb c 48 h)
-
-  pub decimal_digit : 48 ≤ c → c ≤ 57 → nibble_of c ≡ c - 48
-  unfolding nibble_of
-  decimal_digit h k = simp (le-ltb c 48 h, lt-ltb c 58 (omega arith))
-
-  pub before_capital : 57 < c → c < 65 → nibble_of c ≡ 16
-  unfolding nibble_of
-  before_capital h k = simp (le-ltb c 48 (omega arith), le-ltb c 58 (omega arith), lt-ltb c 65 k)
-
-  pub capital_digit : 65 ≤ c → c ≤ 70 → nibble_of c ≡ c - 55
-  unfolding nibble_of
-  capital_digit h k = simp (le-ltb c 48 (omega arith), le-ltb c 58 (omega arith), le-ltb c 65 h, lt-ltb c 71 (omega arith))
-
-  pub before_small : 70 < c → c < 97 → nibble_of c ≡ 16
-  unfolding nibble_of
-  before_small h k = simp (le-ltb c 48 (omega arith), le-ltb c 58 (omega arith), le-ltb c 65 (omega arith), le-ltb c 71 (omega arith), lt-ltb c 97 k)
-
-  pub small_digit : 97 ≤ c → c ≤ 102 → nibble_of c ≡ c - 87
-  unfolding nibble_of
-  small_digit h k = simp (le-ltb c 48 (omega arith), le-ltb c 58 (omega arith), le-ltb c 65 (omega arith), le-ltb c 71 (omega arith), le-ltb c 97 h, lt-ltb c 103 (omega arith))
-
-  pub after_small : 102 < c → nibble_of c ≡ 16
-  unfolding nibble_of
-  after_small h = simp (le-ltb c 48 (omega arith), le-ltb c 58 (omega arith), le-ltb c 65 (omega arith), le-ltb c 71 (omega arith), le-ltb c 97 (omega arith), le-ltb c 103 (omega arith))
+-- no byte before the decimal digits is a digit
+before_decimal : (c : ℕ) → c < 48 → nibble_of c ≡ 16
+unfolding nibble_of
+before_decimal c h = simp (lt-ltb c 48 h)
 
 -- a newline is no digit
 pub newline_no_digit : (c : ℕ) → eqb c 10 ≡ true → ltb 15 (nibble_of c) ≡ true
@@ -51,15 +27,31 @@ newline_no_digit c e = let h : c ≡ 10 = eqb-true c 10 e in lt-ltb 15 (nibble_o
 pub digit_no_newline : (c : ℕ) → ltb 15 (nibble_of c) ≡ false → eqb c 10 ≡ false
 digit_no_newline c e = ne_eqb c 10 (λ h. let k : nibble_of c ≤ 15 = ltb-false 15 (nibble_of c) e in absurd (omega (arith, before_decimal c (omega arith))))
 
--- two digits at a place
-pub pairs_step : (xs : List ℕ) (next : ℕ) → next + 1 < length xs
-    → pairs (drop next xs) ≡ if (ltb 15 (nibble_of (get_or xs next 0))) [] (if (ltb 15 (nibble_of (get_or xs (next + 1) 0))) [] ((nibble_of (get_or xs next 0) * 16 + nibble_of (get_or xs (next + 1) 0)) ∷ pairs (drop (next + 2) xs)))
-pairs_step xs next h =
-    let a : drop next xs ≡ get_or xs next 0 ∷ drop (suc next) xs = drop-cons xs next 0 (omega arith) in
-    let b : drop (suc next) xs ≡ get_or xs (suc next) 0 ∷ drop (suc (suc next)) xs = drop-cons xs (suc next) 0 (omega arith) in
-    let one : next + 1 ≡ suc next = omega arith in
-    let two : next + 2 ≡ suc (suc next) = omega arith in
-    rw (a, b, one, two) refl
+-- the byte that two digits stand for, or none
+abbrev pub pair_by : Option ℕ → Option ℕ → List ℕ
+pair_by (Some high) (Some low) = (high * 16 + low) ∷ []
+pair_by (Some high) None = []
+pair_by None low = []
+
+pub pair_digits : (xs : List ℕ) → length xs ≡ 2 → pairs xs ≡ pair_by (digit_of (get_or xs 0 0)) (digit_of (get_or xs 1 0))
+pair_digits [] e = absurd (omega arith)
+pair_digits (a ∷ []) e = absurd (omega arith)
+pair_digits (a ∷ b ∷ []) e =
+    by (ltb 15 (nibble_of a)) (ltb 15 (nibble_of b))
+  where
+    by : (s t : Bool) → if s [] (if t [] ((nibble_of a * 16 + nibble_of b) ∷ [])) ≡ pair_by (if s None (Some (nibble_of a))) (if t None (Some (nibble_of b)))
+    by true t = refl
+    by false true = refl
+    by false false = refl
+pair_digits (a ∷ b ∷ c ∷ r) e = absurd (omega arith)
+
+-- a digit is below 16
+pub digit_small : (c d : ℕ) → Some d ≡ digit_of c → d ≤ 15
+digit_small c d e = by (ltb 15 (nibble_of c)) refl e
+  where
+    by : (t : Bool) → ltb 15 (nibble_of c) ≡ t → Some d ≡ if t None (Some (nibble_of c)) → d ≤ 15
+    by true f e = absurd (let z : ◌≡◌ {A = ℕ} 0 1 = cc in omega arith)
+    by false f e = let g : d ≡ nibble_of c = cc in omega (arith, ltb-false 15 (nibble_of c) f)
 
 -- less than two bytes are no pair
 pub pairs_short : (l : List ℕ) → length l < 2 → pairs l ≡ []

@@ -3,12 +3,13 @@
 use mathlib.Core.Path.{◌≡◌, refl, ◌∙◌, ap, sym}
 use mathlib.Core.Bool.{Bool, true, false}
 use mathlib.Core.List.{List}
-use Prim.Native.Nat.{ℕ, ◌+◌, ◌≤◌, ◌<◌}
+use Prim.Native.Nat.{ℕ, ◌+◌, ◌-◌, ◌*◌, ◌≤◌, ◌<◌}
 use native.Mathlib.Omega.{arith}
 use lib.Dec.{ltb, eqb}
 use lib.ListN.{length, take, drop, length-drop}
 use lib.Seq.{sets, sets-eq, drop-drop}
 use borrow.Author.Tests.{lt-ltb, le-ltb, ltb-true, ltb-false, eq-eqb, ne_eqb, eqb-false}
+use Rattle.std.proofs.lemmas.Slice.{between_to_end}
 use Rattle.types.specs.Choice.{if}
 use Rattle.types.specs.Refusal.{Carried, amount}
 use Rattle.types.specs.Writing.{over}
@@ -38,13 +39,22 @@ leading_of_line : (xs : List ℕ) → leading (until_newline xs) ≡ leading xs
 leading_of_line xs = ap (take most_bytes) (pairs_of_line xs)
 
 -- what follows for the line from what is decoded: so many bytes, and so many digits
-module _ (xs : List ℕ) (place : ℕ) (frame frame' : List ℕ) (bytes : ℕ) (stored : frame' ≡ sets frame 0 (leading (drop place xs))) (counted : bytes ≡ length (leading (drop place xs))) where
-  pub behind_digits : (digits : ℕ) → digits ≡ place + bytes + bytes → place + length (until_newline (drop place xs)) ≡ digits + length (until_newline (drop digits xs))
+module _ (xs : List ℕ) (place : ℕ) (inside : place ≤ length xs) (frame frame' : List ℕ) (bytes : ℕ) (stored' : frame' ≡ sets frame 0 (leading (take (length xs - place) (drop place xs)))) (counted' : bytes ≡ length (leading (take (length xs - place) (drop place xs)))) where
+  whole : take (length xs - place) (drop place xs) ≡ drop place xs
+  whole = between_to_end xs place (length xs) (omega arith)
+
+  stored : frame' ≡ sets frame 0 (leading (drop place xs))
+  stored = stored' ∙ ap (λ (l : List ℕ). sets frame 0 (leading l)) whole
+
+  counted : bytes ≡ length (leading (drop place xs))
+  counted = counted' ∙ ap (λ (l : List ℕ). length (leading l)) whole
+
+  pub behind_digits : (digits : ℕ) → digits ≡ place + 2 * bytes → place + length (until_newline (drop place xs)) ≡ digits + length (until_newline (drop digits xs))
   behind_digits digits e =
       let w = leading_count (drop place xs) in
       let n : place + (bytes + bytes) ≡ digits = omega arith in
       let g : drop (bytes + bytes) (drop place xs) ≡ drop digits xs = drop-drop (bytes + bytes) place xs ∙ rw n refl in
-      let b : length (until_newline (drop place xs)) ≡ bytes + bytes + length (until_newline (drop digits xs)) = line_behind_pairs bytes (drop place xs) (omega (arith, w.1)) ∙ rw g refl in
+      let b : length (until_newline (drop place xs)) ≡ bytes + bytes + length (until_newline (drop digits xs)) = line_behind_pairs bytes (drop place xs) (omega (arith, w.1, counted)) ∙ rw g refl in
       omega arith
 
   pub frame_of_line : length frame ≡ most_bytes → frame' ≡ over frame 0 (leading (until_newline (drop place xs)))
@@ -56,13 +66,13 @@ module _ (xs : List ℕ) (place : ℕ) (frame frame' : List ℕ) (bytes : ℕ) (
   line_count : length (leading (until_newline (drop place xs))) ≡ bytes
   line_count = ap length (leading_of_line (drop place xs)) ∙ sym counted
 
-  module _ (ended : Bool) (inside : place ≤ length xs) (end next : ℕ) (ending : line_ends end next ≡ end_from ended xs place) where
+  module _ (ended : Bool) (end next : ℕ) (ending : line_ends end next ≡ end_from ended xs place) where
     by_frame : (good : Bool) → is_frame (until_newline (drop place xs)) ≡ good → if good (a_frame (length (pairs (until_newline (drop place xs)))) next) (no_frame next) ≡ line_from ended xs place
     unfolding line_from
     by_frame good e = simp (le-ltb (length xs) place inside, sym ending, e)
 
     -- where it ends with its digits it is a frame's, and else it is none
-    pub frame_there : end ≡ place + bytes + bytes → a_frame bytes next ≡ line_from ended xs place
+    pub frame_there : end ≡ place + 2 * bytes → a_frame bytes next ≡ line_from ended xs place
     frame_there e =
         let l : List ℕ = until_newline (drop place xs) in
         let n = line_count in
@@ -70,7 +80,7 @@ module _ (xs : List ℕ) (place : ℕ) (frame frame' : List ℕ) (bytes : ℕ) (
         let f : is_frame l ≡ true = frame_by_count l ∙ eq-eqb (length l) (length (leading l) + length (leading l)) (omega (arith, w.0)) in
         ap (λ (k : ℕ). a_frame k next) (sym n ∙ ap length (frame_leading l f)) ∙ by_frame true f
 
-    pub other_there : (end ≡ place + bytes + bytes → ⊥) → no_frame next ≡ line_from ended xs place
+    pub other_there : (end ≡ place + 2 * bytes → ⊥) → no_frame next ≡ line_from ended xs place
     other_there h =
         let l : List ℕ = until_newline (drop place xs) in
         let n = line_count in

@@ -1,6 +1,6 @@
 -- Lines of hexadecimal (document 01, "The program"): two digits a byte, either case, no more digits than a frame has; else 19.
 -- Assumes nothing.
-use Rattle.std.specs.Prelude.{Bool, false, List, [], ◌∷◌, ℕ, ◌+◌, ◌-◌, ◌*◌, ◌<◌, ltb, eqb, length, take}
+use Rattle.std.specs.Prelude.{Bool, false, List, [], ◌∷◌, ℕ, ◌+◌, ◌-◌, ◌*◌, ◌<◌, ltb, eqb, length, take, Option, Some, None}
 use Rattle.types.specs.Choice.{if}
 
 -- the most bytes of a frame, and the most digits of its line
@@ -19,6 +19,15 @@ nibble_of c =
     (if (ltb c 71) (c - 55)
     (if (ltb c 97) 16
     (if (ltb c 103) (c - 87) 16)))))
+
+-- what the program says of a byte: the value of a digit, and none for any other
+abbrev pub digit_of : ℕ → Option ℕ
+digit_of c = if (ltb 15 (nibble_of c)) None (Some (nibble_of c))
+
+-- and of a pair: the byte that its digits stand for
+abbrev pub paper_digits : Option ℕ → List ℕ
+paper_digits (Some byte) = byte ∷ []
+paper_digits None = []
 
 -- a line of digits, and the bytes that they stand for
 pub data Spells : List ℕ → List ℕ → Type 0 where

@@ -1,14 +1,13 @@
 -- The line at a place of what was read, and what is kept of a line that has not ended (document 01, "The program").
 -- Assumes nothing.
-use Rattle.std.specs.Prelude.{Bool, List, [], ◌∷◌, ℕ, ◌+◌, ltb, eqb, length, take, drop}
+use Rattle.std.specs.Prelude.{Bool, List, [], ◌∷◌, ℕ, ◌+◌, ltb, eqb, length, take, drop, Option, Some, None, Result, Ok, Err}
 use Rattle.types.specs.Choice.{if}
 use Rattle.types.specs.Refusal.{Carried, amount, table}
 use Rattle.types.specs.Writing.{over}
 use Rattle.lines.specs.Hexadecimal.{most_digits, pairs, leading, is_frame}
+use Rattle.types.specs.declared.refusal.Refusal.{Refusal}
 use Rattle.lines.specs.declared.line.Line.{Line}
-use Rattle.lines.specs.declared.line.Line.TheVariants as p
 use Rattle.lines.specs.declared.line.LineEnd.{LineEnd}
-use Rattle.lines.specs.declared.line.LineEnd.TheVariants as e
 
 -- what stands before the first newline, or all
 abbrev pub until_newline : List ℕ → List ℕ
@@ -27,9 +26,9 @@ ending_by ended place last end = if (ltb end last) (line_ends end (end + 1)) (if
 unfoldable pub end_from : Bool → List ℕ → ℕ → End
 end_from ended xs place = ending_by ended place (length xs) (place + length (until_newline (drop place xs)))
 
-abbrev pub paper_end : LineEnd → End
-paper_end (e.Ends end next) = line_ends end next
-paper_end e.NoLine = no_line
+abbrev pub paper_end : Option LineEnd → End
+paper_end (Some line) = line_ends line.end line.next
+paper_end None = no_line
 
 -- what stands at a place: a frame's digits, the count of its bytes and where the next line begins; a line that is no frame's; no line that ends; or a refusal
 pub data LineThere : Type 0 where
@@ -38,11 +37,15 @@ pub data LineThere : Type 0 where
   not_ended : LineThere
   not_read : ℕ → Carried → LineThere
 
-abbrev pub paper_line : Line → LineThere
-paper_line (p.Frame bytes next) = a_frame bytes next
-paper_line (p.NotHexadecimal next) = no_frame next
-paper_line p.NoLine = not_ended
-paper_line (p.Refused r) = not_read (table r).number (table r).carries
+-- a line that ends: a frame's where there are bytes that its digits stand for
+abbrev pub line_of : Option ℕ → ℕ → LineThere
+line_of (Some bytes) next = a_frame bytes next
+line_of None next = no_frame next
+
+abbrev pub paper_line : Result (Option Line) Refusal → LineThere
+paper_line (Ok (Some line)) = line_of line.bytes line.next
+paper_line (Ok None) = not_ended
+paper_line (Err r) = not_read (table r).number (table r).carries
 
 abbrev pub line_by : End → List ℕ → LineThere
 line_by (line_ends end next) l = if (is_frame l) (a_frame (length (pairs l)) next) (no_frame next)

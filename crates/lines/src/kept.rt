@@ -4,7 +4,6 @@ ghost use Rattle.types.specs.Writing.{over};
 ghost use Rattle.lines.specs.Lines.{kept_of};
 
 use crate::hexadecimal::MOST_DIGITS;
-use crate::lesser::at_most;
 
 // The most bytes of a line that are kept: enough to tell that it has too many digits.
 const MOST_KEPT: usize = MOST_DIGITS + 1;
@@ -17,11 +16,7 @@ pub fn keep(buf: &mut [u8], place: usize) -> usize
     if buf.len() < place {
         return 0;
     }
-    let count = at_most(buf.len() - place, MOST_KEPT);
-    let mut moved = 0;
-    while moved < count {
-        buf[moved] = buf[place + moved];
-        moved += 1;
-    }
+    let count = (buf.len() - place).min(MOST_KEPT);
+    buf.copy_within(place..place + count, 0);
     count
 }

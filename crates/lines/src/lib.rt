@@ -3,7 +3,6 @@
 
 mod hexadecimal;
 mod kept;
-mod lesser;
 mod line;
 
 pub use hexadecimal::MOST_BYTES;

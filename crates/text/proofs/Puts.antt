@@ -1,13 +1,14 @@
 -- Texts put one behind the other are one text.
 -- Assumes nothing.
 use mathlib.Core.Path.{◌≡◌, refl, ◌∙◌, sym, ap, subst}
-use mathlib.Core.List.{List, [], ◌∷◌, ◌++◌}
-use Prim.Native.Nat.{ℕ, suc, ◌+◌}
+use mathlib.Core.List.{List, [], ◌∷◌, ◌++◌, append_assoc}
+use Prim.Native.Nat.{ℕ, suc, ◌+◌, ◌-◌, ◌≤◌}
 use native.Mathlib.Numerals.{add-one}
 use native.Mathlib.Nat.{add-zero, add-suc, suc-add, add_assoc}
 use native.Mathlib.Omega.{arith}
-use lib.ListN.{length, set, length-append}
-use lib.Seq.{sets}
+use lib.ListN.{length, take, drop, set, length-append}
+use lib.Seq.{sets, sets-eq, drop-drop}
+use borrow.Rule.Slice.PartMut.{put_mid}
 use Rattle.text.specs.Text.{Wrote}
 
 -- two runs of stores, the second where the first ended, are one
@@ -34,6 +35,12 @@ one xs place b e = record { buffer = refl; after = e }
 -- a text and one byte behind it
 pub ended : {xs text ys : List ℕ} {place p next : ℕ} (q b : ℕ) → Wrote xs place text ys p → p ≡ q → next ≡ q + 1 → Wrote xs place (text ++ (b ∷ [])) (set ys q b) next
 ended {xs} {text} {ys} {place} q b w e f = then (subst (Wrote xs place text ys) e w) (one ys q b f)
+
+-- a whole text, put as a part of the buffer
+pub whole : (text xs : List ℕ) (place : ℕ) (part : List ℕ) → place + length text ≤ length xs → part ≡ text → Wrote xs place text (put_mid place (place + length text - place) xs part) (place + length text)
+whole text xs place part room e =
+    let n : place + length text - place ≡ length text = omega arith in
+    record { buffer = rw (n, e) (ap (λ (l : List ℕ). take place xs ++ (text ++ l)) (drop-drop (length text) place xs) ∙ sym (append_assoc (take place xs) text (drop (place + length text) xs)) ∙ sym (sets-eq text xs place room)); after = refl }
 
 -- two bytes
 pub two : (xs : List ℕ) (place a b : ℕ) → Wrote xs place (a ∷ b ∷ []) (set (set xs place a) (place + 1) b) (place + 2)

@@ -7,13 +7,10 @@ use native.Mathlib.Omega.{arith}
 use lib.ListN.{length, drop, get_or, set, length-append}
 use lib.Seq.{sets, set-set, drop-cons, drop-length}
 use borrow.Author.Tests.{lt-ltb, le-ltb}
-use Rattle.text.specs.Text.{Wrote, decimal, decimals, line, most_numbers, most_letters, line_room, words_in}
+use mathlib.Core.Logic.{⊎_elim}
+use Rattle.std.proofs.lemmas.Bool.{cases_lt}
+use Rattle.text.specs.Text.{Wrote, decimal, decimals, spaced, line, most_numbers, most_letters, line_room, words_in}
 use Rattle.text.proofs.Puts.{sets_append, nothing, Coming, go_on, come}
-
--- words, each with a space behind it
-abbrev pub spaced : List (List ℕ) → List ℕ
-spaced [] = []
-spaced (w ∷ ws) = (w ++ (32 ∷ [])) ++ spaced ws
 
 line_more : (w : List ℕ) (ws : List (List ℕ)) → 0 < length ws → line (w ∷ ws) ≡ (w ++ (32 ∷ [])) ++ line ws
 line_more w [] h = absurd (omega arith)
@@ -61,23 +58,19 @@ newline w vs {xs} {ys} {place} {next} last a e =
     }
 
 -- one number more was put, and a space behind it
-pub number_more : {xs text ys zs : List ℕ} {place p q : ℕ} (ns rest : List ℕ) (count : ℕ) → Coming xs place text ys p (spaced (decimals (drop count ns)) ++ rest) → count < length ns
-    → Wrote ys p (decimal (get_or ns count 0) ++ (32 ∷ [])) zs q → Coming xs place text zs q (spaced (decimals (drop (count + 1) ns)) ++ rest)
-number_more ns rest count c h w =
+pub number_more : {xs text ys zs : List ℕ} {place p q : ℕ} (ns : List ℕ) (count : ℕ) → Coming xs place text ys p (spaced (decimals (drop count ns))) → count < length ns
+    → Wrote ys p (decimal (get_or ns count 0) ++ (32 ∷ [])) zs q → Coming xs place text zs q (spaced (decimals (drop (count + 1) ns)))
+number_more ns count c h w =
     let one : suc count ≡ count + 1 = omega arith in
     let n : List ℕ = decimal (get_or ns count 0) ++ (32 ∷ []) in
-    let e : spaced (decimals (drop count ns)) ++ rest ≡ n ++ (spaced (decimals (drop (count + 1) ns)) ++ rest) =
-    ap (λ (l : List ℕ). spaced (decimals l) ++ rest) (drop-cons ns count 0 h) ∙ append_assoc n (spaced (decimals (drop (suc count) ns))) rest ∙ ap (λ (k : ℕ). n ++ (spaced (decimals (drop k ns)) ++ rest)) one
+    let e : spaced (decimals (drop count ns)) ≡ n ++ spaced (decimals (drop (count + 1) ns)) =
+    ap (λ (l : List ℕ). spaced (decimals l)) (drop-cons ns count 0 h) ∙ ap (λ (k : ℕ). n ++ spaced (decimals (drop k ns))) one
     in
     go_on c e w
 
 -- all numbers are put
-pub numbers_all : (ns rest : List ℕ) (count : ℕ) → count ≡ length ns → spaced (decimals (drop count ns)) ++ rest ≡ rest
-numbers_all ns rest count e = ap (λ (k : ℕ). spaced (decimals (drop k ns)) ++ rest) e ∙ ap (λ (l : List ℕ). spaced (decimals l) ++ rest) (drop-length ns)
-
--- none is to come, so all is put
-pub all_put : {xs text ys rest : List ℕ} {place p : ℕ} → Coming xs place text ys p rest → rest ≡ [] → Wrote xs place text ys p
-all_put {ys = ys} {p = p} c e = come c e (nothing ys p)
+pub numbers_all : {xs text ys : List ℕ} {place p : ℕ} (ns : List ℕ) (count : ℕ) → Coming xs place text ys p (spaced (decimals (drop count ns))) → count ≡ length ns → Wrote xs place text ys p
+numbers_all {ys = ys} {p = p} ns count c e = come c (ap (λ (k : ℕ). spaced (decimals (drop k ns))) e ∙ ap (λ (l : List ℕ). spaced (decimals l)) (drop-length ns)) (nothing ys p)
 
 -- how long words are, each with the byte behind it
 abbrev pub letters : List (List ℕ) → ℕ
@@ -113,6 +106,23 @@ module _ (size place : ℕ) (before word after : List ℕ) where
         pub words_in_lem : place + line_room ≤ size → words_in size place before word after ≡ line (decimals before ++ (word ∷ decimals after))
         unfolding words_in
         words_in_lem h = rw (le-ltb most_numbers (length before) few-before, le-ltb most_letters (length word) short, le-ltb most_numbers (length after) few-behind, le-ltb size (place + line_room) h) refl
+
+-- where any test fails nothing is put
+pub none_put : {xs : List ℕ} {place : ℕ} (before word after : List ℕ) → (length before ≤ most_numbers → length word ≤ most_letters → length after ≤ most_numbers → place + line_room ≤ length xs → ⊥) → Wrote xs place (words_in (length xs) place before word after) xs place
+none_put {xs} {place} before word after not_all = rw none (nothing xs place)
+  where
+    size : ℕ
+    size = length xs
+
+    none : words_in size place before word after ≡ []
+    none =
+        by_test most_numbers (length before) (λ h. too_many_before size place before word after h) (λ a.
+        by_test most_letters (length word) (λ h. word_too_long size place before word after a h) (λ b.
+        by_test most_numbers (length after) (λ h. too_many_behind size place before word after a b h) (λ d.
+        by_test size (place + line_room) (λ h. no_room_lem size place before word after a b d h) (λ r. absurd (not_all a b d r)))))
+      where
+        by_test : (n m : ℕ) → (n < m → words_in size place before word after ≡ []) → (m ≤ n → words_in size place before word after ≡ []) → words_in size place before word after ≡ []
+        by_test n m f g = ⊎_elim f g (cases_lt n m)
 
 -- so where there is room the line is put
 pub words_put : {xs ys : List ℕ} {place next : ℕ} (before word after : List ℕ) → Wrote xs place (words_in (length xs) place before word after) ys next

@@ -27,6 +27,11 @@ abbrev pub decimals : List ℕ → List (List ℕ)
 decimals [] = []
 decimals (n ∷ ns) = decimal n ∷ decimals ns
 
+-- words, each with a space behind it
+abbrev pub spaced : List (List ℕ) → List ℕ
+spaced [] = []
+spaced (w ∷ ws) = (w ++ (32 ∷ [])) ++ spaced ws
+
 -- words with a space between two, and a newline at the end
 abbrev pub line : List (List ℕ) → List ℕ
 line [] = []

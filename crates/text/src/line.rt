@@ -1,6 +1,6 @@
 // A line of text: numbers, a word and numbers.
-ghost use Rattle.std.specs.Prelude.{◌≡◌, [], ◌∷◌, ◌++◌, ◌+◌, ◌≤◌, length};
-ghost use Rattle.text.specs.Text.{Wrote, decimals, line, most_numbers, most_letters, line_room, last_room, words_in};
+ghost use Rattle.std.specs.Prelude.{◌≡◌, [], ◌∷◌, ◌++◌, ◌+◌, ◌*◌, ◌≤◌, length};
+ghost use Rattle.text.specs.Text.{Wrote, decimals, spaced, number_room, line_room, words_in};
 
 use crate::number::{NUMBER_ROOM, put_number};
 
@@ -18,43 +18,29 @@ pub fn put_words(before: &[u64], word: &[u8], after: &[u64], out: &mut [u8], pla
     ensures wrote { Wrote out.old place (words_in (length out.old) place before.now word.now after.now) out.new result }
     ensures upper_bound { result ≤ place + line_room }
 {
-    if before.len() > MOST_NUMBERS {
+    if MOST_NUMBERS < before.len() || MOST_LETTERS < word.len() || MOST_NUMBERS < after.len() {
         return place;
     }
-    if word.len() > MOST_LETTERS {
+    if out.len() < place || out.len() - place < LINE_ROOM {
         return place;
     }
-    if after.len() > MOST_NUMBERS {
-        return place;
-    }
-    if out.len() < place {
-        return place;
-    }
-    if out.len() - place < LINE_ROOM {
-        return place;
-    }
-    let mut next = place;
-    let mut count = 0;
-    while count < before.len() {
-        next = put_number(before[count], out, next);
-        count += 1;
-    }
-    put_last(word, after, out, next)
+    let mut next = put_numbers(before, out, place);
+    next = put_word(word, out, next);
+    next = put_numbers(after, out, next);
+    out[next - 1] = b'\n';
+    next
 }
 
-// Puts a word, numbers and a newline.
-fn put_last(word: &[u8], numbers: &[u64], out: &mut [u8], place: usize) -> usize
-    requires { (length word.now ≤ most_letters) × (length numbers.now ≤ most_numbers) × (place + last_room ≤ length out.old) }
-    ensures wrote { Wrote out.old place (line (word.now ∷ decimals numbers.now)) out.new result }
-    ensures upper_bound { result ≤ place + last_room }
+// Puts numbers, each with a space behind it.
+fn put_numbers(numbers: &[u64], out: &mut [u8], place: usize) -> usize
+    requires { place + number_room * length numbers.now ≤ length out.old }
+    ensures wrote { Wrote out.old place (spaced (decimals numbers.now)) out.new result }
+    ensures upper_bound { result ≤ place + number_room * length numbers.now }
 {
-    let mut next = put_word(word, out, place);
-    let mut count = 0;
-    while count < numbers.len() {
-        next = put_number(numbers[count], out, next);
-        count += 1;
+    let mut next = place;
+    for number in numbers {
+        next = put_number(*number, out, next);
     }
-    out[next - 1] = b'\n';
     next
 }
 
@@ -64,11 +50,8 @@ fn put_word(word: &[u8], out: &mut [u8], place: usize) -> usize
     ensures wrote { Wrote out.old place (word.now ++ (32 ∷ [])) out.new result }
     ensures value { result ≡ place + length word.now + 1 }
 {
-    let mut letters = 0;
-    while letters < word.len() {
-        out[place + letters] = word[letters];
-        letters += 1;
-    }
-    out[place + letters] = b' ';
-    place + letters + 1
+    let end = place + word.len();
+    out[place..end].copy_from_slice(word);
+    out[end] = b' ';
+    end + 1
 }

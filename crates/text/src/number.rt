@@ -5,7 +5,8 @@ ghost use Rattle.text.specs.Text.{Wrote, digits, decimal, number_room};
 // The room that a number takes at most: the twenty digits of 64 bits, and a space.
 pub(crate) const NUMBER_ROOM: usize = 21;
 
-// Puts a number and a space behind it.
+// Puts a number and a space behind it. The library's `write!` would take 138 to 170 instructions a number; out of line, so that the loop over numbers stays small enough to be compiled into each line's.
+#[inline(never)]
 pub(crate) fn put_number(n: u64, out: &mut [u8], place: usize) -> usize
     requires { place + number_room ≤ length out.old }
     ensures wrote { Wrote out.old place (decimal n ++ (32 ∷ [])) out.new result }

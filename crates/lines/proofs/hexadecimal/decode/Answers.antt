@@ -1,21 +1,32 @@
 -- `lines::decode` meets its contract: each turn stores the byte of one pair more, and it ends where no pair follows or the frame is full.
 -- Assumes nothing.
-use native.Mathlib.Omega.{arith}
-use lib.ListN.{length-set}
-use Rattle.lines.proofs.Decoding.{none_decoded, one_more_decoded, no_first_digit, no_second_digit, none_left, all_decoded}
+use Rattle.std.proofs.Common.{◌≡◌, ◌+◌, ◌<◌, ◌∙◌, refl, sym, ap, arith, length-set}
+use Rattle.std.proofs.lemmas.List.{length-take}
+use Rattle.lines.specs.Hexadecimal.{pairs}
+use Rattle.lines.proofs.Decoding.{one_more_decoded, no_pair_left, none_left, all_decoded, pair_taken}
 use Rattle.lines.proofs.hexadecimal.decode.Goals as goal
 
-pub loop-next-init : goal.loop-next-init
-loop-next-init c = (omega arith, none_decoded c.args.buf.now c.args.place c.args.frame.now (omega arith))
+pub returns-in_default : goal.returns-in_default
+returns-in_default c =
+    let digits = c.args.digits.now in
+    let l = c.loop-count in
+    let p = pair_taken digits c.as_chunks.result.0.now c.min-most.result l.count c.as_chunks.ensures.front c.loop-count-test.true in
+    let w = all_decoded digits 0 c.args.frame.now l.frame l.count (l.count + l.count) l.invariant.1 (no_pair_left digits l.count (l.count + l.count) (c.in_default.ensures ∙ ap pairs p)) in
+    record { value = w.0; frame_after = w.1.0; result_in_bounds = (omega arith, omega arith) }
 
-pub returns-then-high-gt15 : goal.returns-then-high-gt15
-returns-then-high-gt15 c = let a = c.args in let l = c.loop-next in let w = all_decoded a.buf.now a.place a.frame.now l.frame l.count l.next l.invariant.1 (no_first_digit a.buf.now l.count l.next c.nibble-high.result (omega arith) c.nibble-high.ensures.value (omega arith)) in record { value = w.0; frame_after = w.1.0; result_in_bounds = w.1.1 }
-
-pub returns-then-low-gt15 : goal.returns-then-low-gt15
-returns-then-low-gt15 c = let a = c.args in let l = c.loop-next in let w = all_decoded a.buf.now a.place a.frame.now l.frame l.count l.next l.invariant.1 (no_second_digit a.buf.now l.count l.next c.nibble-high.result c.nibble-low.result (omega arith) c.nibble-high.ensures.value c.nibble-low.ensures.value (omega arith) (omega arith)) in record { value = w.0; frame_after = w.1.0; result_in_bounds = w.1.1 }
-
-pub loop-next-preserved : goal.loop-next-preserved
-loop-next-preserved c = let a = c.args in let l = c.loop-next in (simp length-set (omega arith), one_more_decoded a.buf.now a.place a.frame.now l.frame l.count l.next c.nibble-high.result c.nibble-low.result l.invariant.1 (omega arith) (omega arith) c.nibble-high.ensures.value c.nibble-low.ensures.value (omega arith) (omega arith))
+pub loop-count-preserved : goal.loop-count-preserved
+loop-count-preserved c =
+    let digits = c.args.digits.now in
+    let l = c.loop-count in
+    let p = pair_taken digits c.as_chunks.result.0.now c.min-most.result l.count c.as_chunks.ensures.front c.loop-count-test.true in
+    let few : l.count < c.min-most.result = omega (arith, length-take c.min-most.result c.as_chunks.result.0.now) in
+    let next : l.count + l.count + 2 ≡ l.count + 1 + (l.count + 1) = omega arith in
+    (simp length-set (omega arith), rw next at (one_more_decoded digits 0 c.args.frame.now l.frame l.count (l.count + l.count) c.in-Some.byte l.invariant.1 (omega arith) (omega arith) (c.in-Some.ensures ∙ ap pairs p)))
 
 pub returns : goal.returns
-returns c = let a = c.args in let l = c.loop-next in let w = all_decoded a.buf.now a.place a.frame.now l.frame l.count l.next l.invariant.1 (none_left a.buf.now a.place l.count l.next c.at_most-end.result l.invariant.1.reached c.at_most-end.ensures.2 (omega arith)) in record { value = w.0; frame_after = w.1.0; result_in_bounds = w.1.1 }
+returns c =
+    let digits = c.args.digits.now in
+    let l = c.loop-count in
+    let all : l.count ≡ c.min-most.result = omega (arith, length-take c.min-most.result c.as_chunks.result.0.now) in
+    let w = all_decoded digits 0 c.args.frame.now l.frame l.count (l.count + l.count) l.invariant.1 (none_left digits l.count (l.count + l.count) refl (omega arith)) in
+    record { value = sym all ∙ w.0; frame_after = w.1.0; result_in_bounds = (omega arith, omega arith) }
