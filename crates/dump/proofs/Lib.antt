@@ -1,5 +1,6 @@
 pub mod TagLines
 pub mod Walking
+pub mod Puts
 pub mod LineTexts
 pub mod TextOf
 pub mod Placed

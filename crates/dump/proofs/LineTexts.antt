@@ -16,7 +16,7 @@ use Rattle.lines.proofs.Digits.{frame_leading}
 use Rattle.text.specs.Text.{Wrote}
 use Rattle.dump.specs.Frame.{refused_line, frame_text}
 use Rattle.dump.specs.Room.{text_room}
-use Rattle.dump.specs.Put.{text_of, text_put, none_ends, not_put, line_left, put_from}
+use Rattle.dump.specs.Put.{LineAnswer, LineLeft, text_of, text_put, none_ends, not_put, line_left, put_from}
 
 -- the text of a frame's line is that of the bytes at the start of the lent frame
 pub frame_text_lem : (number : ℕ) (l frame frame' : List ℕ) (bytes : ℕ) → is_frame l ≡ true → bytes ≡ length (pairs l) → frame' ≡ over frame 0 (leading l) → frame_text number (take bytes frame') ≡ text_of number l
@@ -59,3 +59,7 @@ module _ (ended : Bool) (number : ℕ) (xs : List ℕ) (start : ℕ) (out : List
           let n : after ≡ place + length t = w.after ∙ ap (λ (l : List ℕ). place + length l) is in
           let o : out' ≡ over out place t = w.buffer ∙ sets-eq text out place (omega (arith, w.after)) ∙ append_assoc (take place out) text (drop (place + length text) out) ∙ ap (over out place) is in
           simp (le-ltb (length xs) start inside, le-ltb (length out) place (omega arith), le-ltb (length out) (place + text_room) room, sym e, o, n)
+
+-- the answer, where the buffer that is left is known
+pub left_so : {a : LineAnswer} {xs ys : List ℕ} {l : LineLeft} → line_left a ys ≡ l → xs ≡ ys → line_left a xs ≡ l
+left_so {a} e f = ap (line_left a) f ∙ e

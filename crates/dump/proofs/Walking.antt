@@ -1,34 +1,45 @@
--- The text of a walk, put while it is walked: the line of one tag after the other, and then the outcome's.
+-- The lines of a walk's tags, put while it is walked: one after the other, until it ends.
 -- Assumes nothing.
-use mathlib.Core.Path.{◌≡◌, ◌∙◌, ap, sym}
-use mathlib.Core.List.{List, ◌++◌, append_assoc}
-use Prim.Native.Nat.{ℕ, suc, ◌+◌}
-use native.Mathlib.Nat.{zero-add}
+use mathlib.Core.Path.{◌≡◌, ◌∙◌, ap}
+use mathlib.Core.List.{List}
+use Prim.Native.Nat.{ℕ, ◌+◌}
 use native.Mathlib.Omega.{arith}
 use lib.ListN.{length}
 use Rattle.types.specs.Answer.{Outcome}
 use Rattle.walk.specs.Walk.{Seen, Walk, ended, more, walk_from}
 use Rattle.walk.proofs.Steps.{walk_left, left_first}
-use Rattle.dump.specs.Frame.{tag_line, tag_lines, outcome_line, walk_text}
+use Rattle.text.specs.Text.{Wrote}
+use Rattle.text.proofs.Puts.{Coming, nothing, all_coming, go_on, come}
+use Rattle.dump.specs.Frame.{tag_line, tag_lines}
 
--- the lines of what is left of a walk, behind those of so many tags
-abbrev pub rest_of : ℕ → ℕ → Walk → List ℕ
-rest_of frame tags w = tag_lines frame w.tags ++ outcome_line frame (tags + length w.tags) w.outcome
+-- of a walk so many tags' lines are put, and those of what is left of it are still to come
+pub record Halfway (frame : ℕ) (w left : Walk) (tags : ℕ) (xs : List ℕ) (place : ℕ) (ys : List ℕ) (p : ℕ) : Type 0 where
+  pub coming : Coming xs place (tag_lines frame w.tags) ys p (tag_lines frame left.tags)
+  pub counted : length w.tags ≡ tags + length left.tags
+  pub same_outcome : w.outcome ≡ left.outcome
 
--- at first all its text is to come
-rest_first : (frame : ℕ) (w : Walk) → walk_text frame w ≡ rest_of frame 0 w
-rest_first frame w = ap (λ (j : ℕ). tag_lines frame w.tags ++ outcome_line frame j w.outcome) (sym (zero-add (length w.tags)))
+-- at first all are
+pub begins : (frame : ℕ) (bytes : List ℕ) (body : ℕ) (os xs : List ℕ) (place : ℕ) → Halfway frame (walk_from bytes body) (walk_left bytes body 0 os) 0 xs place xs place
+begins frame bytes body os xs place =
+    let e = left_first bytes body os in
+    record { coming = all_coming (ap (λ (w : Walk). tag_lines frame w.tags) e); counted = omega (arith, ap (λ (w : Walk). length w.tags) e); same_outcome = ap (λ (w : Walk). w.outcome) e }
 
-pub rest_begins : (frame : ℕ) (xs : List ℕ) (place : ℕ) (os : List ℕ) → walk_text frame (walk_from xs place) ≡ rest_of frame 0 (walk_left xs place 0 os)
-rest_begins frame xs place os = ap (walk_text frame) (left_first xs place os) ∙ rest_first frame (walk_left xs place 0 os)
+module _ {frame : ℕ} {w left : Walk} {tags : ℕ} {xs ys : List ℕ} {place p : ℕ} (h : Halfway frame w left tags xs place ys p) where
+  -- one tag's line more was put
+  pub goes_on : {t : Seen} {after : Walk} {zs : List ℕ} {q : ℕ} → left ≡ more t after → Wrote ys p (tag_line frame t) zs q → Halfway frame w after (tags + 1) xs place zs q
+  goes_on {t} {after} e put =
+      record {
+        coming = go_on h.coming (ap (λ (l : Walk). tag_lines frame l.tags) e) put;
+        counted = omega (arith, h.counted, ap (λ (l : Walk). length l.tags) e);
+        same_outcome = h.same_outcome ∙ ap (λ (l : Walk). l.outcome) e;
+      }
 
--- a tag's line, and those behind it
-pub rest_more : (frame tags : ℕ) (t : Seen) (w : Walk) → rest_of frame tags (more t w) ≡ tag_line frame t ++ rest_of frame (tags + 1) w
-rest_more frame tags t w =
-    let k : tags + suc (length w.tags) ≡ tags + 1 + length w.tags = omega arith in
-    append_assoc (tag_line frame t) (tag_lines frame w.tags) (outcome_line frame (tags + suc (length w.tags)) w.outcome)
-    ∙ ap (λ (j : ℕ). tag_line frame t ++ (tag_lines frame w.tags ++ outcome_line frame j w.outcome)) k
+  -- the walk ends, and all are put
+  pub all_lines : {o : Outcome} → left ≡ ended o → Wrote xs place (tag_lines frame w.tags) ys p
+  all_lines e = come h.coming (ap (λ (l : Walk). tag_lines frame l.tags) e) (nothing ys p)
 
--- the outcome's line alone
-pub rest_ended : (frame tags : ℕ) (o : Outcome) → rest_of frame tags (ended o) ≡ outcome_line frame tags o
-rest_ended frame tags o = let k : tags + 0 ≡ tags = omega arith in ap (λ (j : ℕ). outcome_line frame j o) k
+  pub all_counted : {o : Outcome} → left ≡ ended o → tags ≡ length w.tags
+  all_counted e = omega (arith, h.counted, ap (λ (l : Walk). length l.tags) e)
+
+  pub ends_so : {o : Outcome} → left ≡ ended o → w.outcome ≡ o
+  ends_so e = h.same_outcome ∙ ap (λ (l : Walk). l.outcome) e

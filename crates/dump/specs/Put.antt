@@ -1,6 +1,6 @@
 -- The text of a line, and what a call for the text of the line at a place answers and leaves (document 01, "The program").
 -- Assumes nothing.
-use Rattle.std.specs.Prelude.{Bool, List, ℕ, ◌+◌, ltb, length, drop}
+use Rattle.std.specs.Prelude.{Bool, List, ℕ, ◌+◌, ltb, length, drop, Option, Some, None, Result, Ok, Err}
 use Rattle.types.specs.Choice.{if}
 use Rattle.types.specs.Refusal.{Carried, amount, table}
 use Rattle.types.specs.Writing.{over}
@@ -8,8 +8,8 @@ use Rattle.lines.specs.Hexadecimal.{pairs, leading, is_frame}
 use Rattle.lines.specs.Lines.{until_newline, End, line_ends, no_line, end_from}
 use Rattle.dump.specs.Frame.{refused_line, frame_text}
 use Rattle.dump.specs.Room.{text_room}
+use Rattle.types.specs.declared.refusal.Refusal.{Refusal}
 use Rattle.dump.specs.declared.line.LinePut.{LinePut}
-use Rattle.dump.specs.declared.line.LinePut.TheVariants as p
 
 -- the text of a frame of these bytes, or 19 where the line is none
 abbrev pub text_by : Bool → ℕ → List ℕ → List ℕ
@@ -25,10 +25,10 @@ pub data LineAnswer : Type 0 where
   none_ends : LineAnswer
   not_put : ℕ → Carried → LineAnswer
 
-abbrev pub paper_put : LinePut → LineAnswer
-paper_put (p.Put next place) = text_put next place
-paper_put p.NoLine = none_ends
-paper_put (p.Refused r) = not_put (table r).number (table r).carries
+abbrev pub paper_put : Result (Option LinePut) Refusal → LineAnswer
+paper_put (Ok (Some put)) = text_put put.next put.place
+paper_put (Ok None) = none_ends
+paper_put (Err r) = not_put (table r).number (table r).carries
 
 -- the answer, and the whole buffer that is left
 pub record LineLeft : Type 0 where

@@ -2,6 +2,7 @@
 #![tactic(auto)]
 
 mod frame;
+mod frame_text;
 mod header_line;
 mod line;
 mod outcome_line;
