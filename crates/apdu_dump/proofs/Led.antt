@@ -21,9 +21,6 @@ pub record Leads (xs : List ℕ) (ended : Bool) (first start number : ℕ) : Typ
   pub on : (text : List ℕ) (last count : ℕ) → Calls xs ended start number text last count → Made xs ended first last count
 
 module _ (xs : List ℕ) (ended : Bool) (first : ℕ) where
-  pub first_leads : Leads xs ended first 0 first
-  first_leads = record { on = λ text last count c. record { text = text; calls = c } }
-
   module _ (start number : ℕ) (led : Leads xs ended first start number) where
     -- a text put leads to the next line
     pub put_leads : (out out' : List ℕ) (place to after : ℕ) → line_left (text_put to after) out' ≡ put_from ended number xs start out place → Leads xs ended first to (number + 1)
