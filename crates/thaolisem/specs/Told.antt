@@ -23,20 +23,31 @@ abbrev pub told_refusal : ℕ → Carried → ℕ → List ℕ
 told_refusal n (amount a) tags = eight n 0 0 a 0 tags 0 0
 told_refusal n (tag_found t) tags = eight n 0 (class_of t.number) (number_in t.number) t.value tags 0 0
 
+-- what a reader answers: what it accepted, told with the next place, or the refusal
+abbrev pub told_read : {A : Type 0} → (A → ℕ → List ℕ) → Answer A → List ℕ
+told_read telling (accepted a next) = telling a next
+told_read telling (refused n c) = told_refusal n c 0
+
 -- a tag: next place, class, number, value
+abbrev pub tag_told : Tag → ℕ → List ℕ
+tag_told t next = eight 0 next (class_of t.number) (number_in t.number) t.value 0 0 0
+
 abbrev pub told_tag : Answer Tag → List ℕ
-told_tag (accepted t next) = eight 0 next (class_of t.number) (number_in t.number) t.value 0 0 0
-told_tag (refused n c) = told_refusal n c 0
+told_tag = told_read tag_told
 
 -- an unsigned integer: next place, value
+abbrev pub unsigned_told : ℕ → ℕ → List ℕ
+unsigned_told v next = eight 0 next v 0 0 0 0 0
+
 abbrev pub told_unsigned : Answer ℕ → List ℕ
-told_unsigned (accepted v next) = eight 0 next v 0 0 0 0 0
-told_unsigned (refused n c) = told_refusal n c 0
+told_unsigned = told_read unsigned_told
 
 -- a signed integer: next place, its two's complement in 64 bits
+abbrev pub signed_told : ℤ → ℕ → List ℕ
+signed_told z next = eight 0 next (pattern_of 8 z) 0 0 0 0 0
+
 abbrev pub told_signed : Answer ℤ → List ℕ
-told_signed (accepted z next) = eight 0 next (pattern_of 8 z) 0 0 0 0 0
-told_signed (refused n c) = told_refusal n c 0
+told_signed = told_read signed_told
 
 -- a body: next place, where its view starts, the view's length, the body's number, the count of tags
 abbrev pub body_told : Answer Body → ℕ → List ℕ
@@ -84,8 +95,7 @@ value_told (values.unsigned_int x) next = eight 0 next 11 x 0 0 0 0
 value_told (values.signed_int z) next = eight 0 next 12 (pattern_of 8 z) 0 0 0 0
 
 abbrev pub told_value : Answer values.Value → List ℕ
-told_value (accepted v next) = value_told v next
-told_value (refused n c) = told_refusal n c 0
+told_value = told_read value_told
 
 -- a header: next place, its PDU type, its fields in their order, with 0 for those that it has not
 abbrev pub header_told : headers.Header → ℕ → List ℕ
@@ -94,8 +104,7 @@ header_told h next =
     eight 0 next (headers.row_of h.kind).pdu_type (get_or ns 0 0) (get_or ns 1 0) (get_or ns 2 0) (get_or ns 3 0) 0
 
 abbrev pub told_header : Answer headers.Header → List ℕ
-told_header (accepted h next) = header_told h next
-told_header (refused n c) = told_refusal n c 0
+told_header = told_read header_told
 
 -- a check of text, which has no next place
 abbrev pub told_check : Outcome → List ℕ

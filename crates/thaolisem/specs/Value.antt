@@ -1,5 +1,6 @@
 -- The value that a case and its fields name; a field that the case has not is not read, and one too large for its type names nothing.
 -- Assumes nothing.
+use Rattle.std.specs.Prelude as named
 use Rattle.std.specs.Prelude.{ℕ, List, eqb, length}
 use Rattle.std.proofs.Math.Option.{Option, none, some}
 use Rattle.std.specs.Float.{binary32, binary64}
@@ -12,21 +13,20 @@ use Rattle.values.specs.Date.{date}
 use Rattle.values.specs.Time.{time}
 use Rattle.values.specs.Value.{Value, boolean, real, double, on_date, at_time, object_id, character_string, octet_string, enumerated, bit_string, unsigned_int, signed_int, value_of}
 use Rattle.values.specs.Writing.{value_to}
-use Rattle.thaolisem.specs.Named.{if_at_most, fit_bytes, named_to}
-use Rattle.thaolisem.specs.declared.named.ValueNamed as program
-use Rattle.thaolisem.specs.declared.named.ValueNamed.TheVariants as v
+use Rattle.values.specs.declared.value.ApplicationDataValue.{ApplicationDataValue}
+use Rattle.thaolisem.specs.Named.{if_at_most, fit_bytes, named_to, paper_named_by}
 
-unfoldable pub date_named : (year month day weekday : ℕ) → Option Value
+abbrev pub date_named : (year month day weekday : ℕ) → Option Value
 date_named y m d w = if_at_most 65535 y (if (fit_bytes m d w 0) (some (on_date (date y m d w))) none)
 
-unfoldable pub time_named : (hour minute second hundredths : ℕ) → Option Value
+abbrev pub time_named : (hour minute second hundredths : ℕ) → Option Value
 time_named h m s c = if (fit_bytes h m s c) (some (at_time (time h m s c))) none
 
-unfoldable pub object_id_named : (type instance : ℕ) → Option Value
+abbrev pub object_id_named : (type instance : ℕ) → Option Value
 object_id_named k i = if_at_most 65535 k (if_at_most 4294967295 i (some (object_id k i)))
 
 -- text, octets and bits have their content from the lent slice, and bits their unused count besides; a signed integer is named by its two's complement in 64 bits
-unfoldable pub content_named : ℕ → ℕ → Option Value
+abbrev pub content_named : ℕ → ℕ → Option Value
 content_named case a =
     if (eqb case 7) (some (character_string (part_at 0 0)))
     (if (eqb case 8) (some (octet_string (part_at 0 0)))
@@ -37,7 +37,7 @@ content_named case a =
     none)))))
 
 -- a float is named by its bits
-unfoldable pub value_named : (case first second third fourth : ℕ) → Option Value
+abbrev pub value_named : (case first second third fourth : ℕ) → Option Value
 value_named case a b c d =
     if (eqb case 1) (if_at_most 1 a (some (boolean (eqb a 1))))
     (if (eqb case 2) (if_at_most 4294967295 a (some (real (of_bits binary32 a))))
@@ -48,10 +48,9 @@ value_named case a b c d =
     (content_named case a))))))
 
 -- what writing it at a place of a buffer answers and leaves
-unfoldable pub value_named_to : (case first second third fourth : ℕ) → (lent : List ℕ) → List ℕ → (place : ℕ) → Left
+abbrev pub value_named_to : (case first second third fourth : ℕ) → (lent : List ℕ) → List ℕ → (place : ℕ) → Left
 value_named_to case a b c d lent xs place = named_to (length lent) (value_named case a b c d) (λ v. value_to v lent) xs place
 
--- the program's enum for it
-abbrev pub paper_named : program.ValueNamed → Option Value
-paper_named (v.Value x) = some (value_of x)
-paper_named v.Nothing = none
+-- the value that the program names
+abbrev pub paper_named : named.Option ApplicationDataValue → Option Value
+paper_named = paper_named_by value_of

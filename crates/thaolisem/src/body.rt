@@ -1,12 +1,12 @@
 // Tagged bodies, and the strict walk.
-ghost use Rattle.std.specs.Prelude.{◌≡◌};
+ghost use Rattle.std.specs.Prelude.{◌≡◌, [], ◌∷◌};
 ghost use Rattle.bodies.specs.Scan.{paper_body, body_from, body_for_from};
 ghost use Rattle.walk.specs.Walk.{reported, walk_from};
 ghost use Rattle.thaolisem.specs.Told.{told_body, told_walk};
 
 use crate::answer::refused;
-use bodies::BodyRead;
-use types::Outcome;
+use bodies::Body;
+use types::CountedRefusal;
 
 // Tells the body whose opening tag is at a place: where its view lies, its number, and how many tags were read.
 #[unsafe(no_mangle)]
@@ -36,28 +36,29 @@ pub extern "C" fn thaolisem_get_tagged_body_for_tag(
 }
 
 // The eight numbers of a body, or of the refusal and how many tags were read before it.
-fn told(answer: BodyRead) -> [u64; 8]
+fn told(answer: Result<Body, CountedRefusal>) -> [u64; 8]
     ensures { result ≡ told_body (paper_body answer) }
 {
     match answer {
-        BodyRead::Body {
-            start,
-            len,
-            number,
-            next,
-            tags,
-        } => [
-            0,
-            next as u64,
-            start as u64,
-            len as u64,
-            number as u64,
-            tags as u64,
-            0,
-            0,
-        ],
-        BodyRead::Refused { refusal, tags } => refused(refusal, tags),
+        Ok(body) => numbers_of(body, 0),
+        Err(counted) => refused(counted),
     }
+}
+
+// The eight numbers of a body, the seventh as it is given: 1 where the body was optional.
+pub(crate) fn numbers_of(body: Body, seventh: u64) -> [u64; 8]
+    ensures { result ≡ 0 ∷ body.next ∷ body.start ∷ body.len ∷ body.number ∷ body.tags ∷ seventh ∷ 0 ∷ [] }
+{
+    [
+        0,
+        body.next as u64,
+        body.start as u64,
+        body.len as u64,
+        u64::from(body.number),
+        body.tags as u64,
+        seventh,
+        0,
+    ]
 }
 
 // Tells how many tags the strict walk from a place to the buffer's end accepts, and the refusal where it does not pass.
@@ -65,15 +66,8 @@ fn told(answer: BodyRead) -> [u64; 8]
 pub extern "C" fn thaolisem_walk(buf: &[u8], place: usize, answer: &mut [u64; 8])
     ensures { answer.new ≡ told_walk (reported (walk_from buf.now place)) }
 {
-    let walked = walk::walk(buf, place);
-    let tags = walked.tags;
-    let outcome = walked.outcome;
-    match outcome {
-        Outcome::Passed => {
-            *answer = [0, 0, tags as u64, 0, 0, 0, 0, 0];
-        }
-        Outcome::Refused(r) => {
-            *answer = refused(r, tags);
-        }
-    }
+    *answer = match walk::walk(buf, place) {
+        Ok(tags) => [0, 0, tags as u64, 0, 0, 0, 0, 0],
+        Err(stopped) => refused(stopped),
+    };
 }

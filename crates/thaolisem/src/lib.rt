@@ -3,7 +3,6 @@
 
 mod answer;
 mod body;
-mod bytes;
 mod header;
 mod integer;
 mod kind;

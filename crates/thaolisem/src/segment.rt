@@ -2,7 +2,6 @@
 ghost use Rattle.std.specs.Prelude.{◌≡◌};
 ghost use Rattle.segments.specs.State.{state_of};
 ghost use Rattle.segments.specs.Taking.{takes};
-ghost use Rattle.tags.specs.Item.{boolean_byte};
 ghost use Rattle.thaolisem.specs.Segment.{state_in, state_numbers, numbers_then, told_taken};
 
 use crate::answer::refused;
@@ -21,16 +20,16 @@ pub extern "C" fn thaolisem_take_segment(
     ensures buf_after { buf.new ≡ (takes (state_in state.old) frame.now buf.old).buffer }
 {
     match segments::take(state_in(*state), frame, buf) {
-        Taken::More(then) => {
+        Ok(Taken::More(then)) => {
             *answer = [0, then.held as u64, 1, then.due, 0, 0, 0, 0];
             *state = numbers_of(then);
         }
-        Taken::Finished(then) => {
+        Ok(Taken::Finished(then)) => {
             *answer = [0, then.held as u64, 2, then.due, 0, 0, 0, 0];
             *state = numbers_of(then);
         }
-        Taken::Refused(r) => {
-            *answer = refused(r, 0);
+        Err(refusal) => {
+            *answer = refused(refusal.into());
         }
     }
 }
@@ -54,8 +53,8 @@ fn numbers_of(state: State) -> [u64; 8]
     ensures { result ≡ state_numbers (state_of state) }
 {
     [
-        bit(state.begun),
-        bit(state.finished),
+        u64::from(state.begun),
+        u64::from(state.finished),
         state.id,
         state.choice,
         state.due,
@@ -63,11 +62,4 @@ fn numbers_of(state: State) -> [u64; 8]
         0,
         0,
     ]
-}
-
-// 1 where something is so, else 0.
-fn bit(so: bool) -> u64
-    ensures { result ≡ boolean_byte so }
-{
-    if so { 1 } else { 0 }
 }

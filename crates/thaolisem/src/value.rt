@@ -1,79 +1,68 @@
 // Values, read and written.
-ghost use Rattle.std.specs.Prelude.{◌≡◌, [], ◌∷◌};
+ghost use Rattle.std.specs.Prelude.{◌≡◌};
+ghost use Rattle.values.specs.Value as paper;
 ghost use Rattle.values.specs.Value.{value_of};
 ghost use Rattle.values.specs.Reading.{value_from};
 ghost use Rattle.thaolisem.specs.Told.{told_value, value_told, told_write};
 ghost use Rattle.thaolisem.specs.Value.{value_named_to};
 
-use crate::answer::{nothing_named, refused, written};
-use crate::named::{ValueNamed, value_named};
-use values::{ApplicationDataValue, ValueRead};
+use crate::answer::{Tell, nothing_named, told, written};
+use crate::named::value_named;
+use values::ApplicationDataValue;
 
 // Tells the value at a place, by its case and its fields, and the place after it.
 #[unsafe(no_mangle)]
 pub extern "C" fn thaolisem_decode_value(buf: &[u8], place: usize, answer: &mut [u64; 8])
     ensures { answer.new ≡ told_value (value_from buf.now place) }
 {
-    match values::decode(buf, place) {
-        ValueRead::Value(value, next) => {
-            *answer = told(value, next);
-        }
-        ValueRead::Refused(r) => {
-            *answer = refused(r, 0);
-        }
+    *answer = told(values::decode(buf, place));
+}
+
+// A value is told by its case and its fields.
+impl Tell for ApplicationDataValue {
+    ghost Paper = { paper.Value };
+
+    ghost paper = { value_of };
+
+    ghost telling = { value_told };
+
+    fn tell(self, next: usize) -> [u64; 8] {
+        let (case, [a, b, c, d]) = match self {
+            Self::Boolean(so) => (1, [u64::from(so), 0, 0, 0]),
+            Self::Real(x) => (2, [u64::from(values::real_bits(x)), 0, 0, 0]),
+            Self::Double(x) => (3, [values::double_bits(x), 0, 0, 0]),
+            Self::Date(d) => (
+                4,
+                [
+                    u64::from(d.year),
+                    u64::from(d.month),
+                    u64::from(d.day),
+                    u64::from(d.wday),
+                ],
+            ),
+            Self::Time(t) => (
+                5,
+                [
+                    u64::from(t.hour),
+                    u64::from(t.minute),
+                    u64::from(t.second),
+                    u64::from(t.hundredths),
+                ],
+            ),
+            Self::ObjectId(id) => (6, [u64::from(id.object_type), u64::from(id.instance), 0, 0]),
+            Self::CharacterString { place, len } => (7, [place as u64, u64::from(len), 0, 0]),
+            Self::OctetString { place, len } => (8, [place as u64, u64::from(len), 0, 0]),
+            Self::BitString {
+                unused_bits,
+                place,
+                len,
+            } => (9, [u64::from(unused_bits), place as u64, u64::from(len), 0]),
+            Self::Enumerated(x) => (10, [u64::from(x), 0, 0, 0]),
+            Self::UnsignedInt(x) => (11, [x, 0, 0, 0]),
+            Self::SignedInt(x) => (12, [numbers::pattern(x), 0, 0, 0]),
+        };
+        [0, next as u64, case, a, b, c, d, 0]
     }
-}
-
-// The eight numbers of a value, by its case and its fields, and of the place after it.
-fn told(value: ApplicationDataValue, next: usize) -> [u64; 8]
-    ensures { result ≡ value_told (value_of value) next }
-{
-    match value {
-        ApplicationDataValue::Boolean(b) => fields(1, b as u64, 0, 0, 0, next),
-        ApplicationDataValue::Real(x) => fields(2, values::real_bits(x) as u64, 0, 0, 0, next),
-        ApplicationDataValue::Double(x) => fields(3, values::double_bits(x), 0, 0, 0, next),
-        ApplicationDataValue::Date(d) => fields(
-            4,
-            d.year as u64,
-            d.month as u64,
-            d.day as u64,
-            d.wday as u64,
-            next,
-        ),
-        ApplicationDataValue::Time(t) => fields(
-            5,
-            t.hour as u64,
-            t.minute as u64,
-            t.second as u64,
-            t.hundredths as u64,
-            next,
-        ),
-        ApplicationDataValue::ObjectId(id) => two(6, id.object_type as usize, id.instance, next),
-        ApplicationDataValue::CharacterString { place, len } => two(7, place, len, next),
-        ApplicationDataValue::OctetString { place, len } => two(8, place, len, next),
-        ApplicationDataValue::BitString {
-            unused_bits,
-            place,
-            len,
-        } => fields(9, unused_bits as u64, place as u64, len as u64, 0, next),
-        ApplicationDataValue::Enumerated(x) => fields(10, x as u64, 0, 0, 0, next),
-        ApplicationDataValue::UnsignedInt(x) => fields(11, x, 0, 0, 0, next),
-        ApplicationDataValue::SignedInt(x) => fields(12, numbers::pattern(x), 0, 0, 0, next),
-    }
-}
-
-// The eight numbers of a case, four fields and the place after them.
-fn fields(case: u64, a: u64, b: u64, c: u64, d: u64, next: usize) -> [u64; 8]
-    ensures { result ≡ 0 ∷ next ∷ case ∷ a ∷ b ∷ c ∷ d ∷ 0 ∷ [] }
-{
-    [0, next as u64, case, a, b, c, d, 0]
-}
-
-// The eight numbers of a case, two fields and the place after them.
-fn two(case: u64, a: usize, b: u32, next: usize) -> [u64; 8]
-    ensures { result ≡ 0 ∷ next ∷ case ∷ a ∷ b ∷ 0 ∷ 0 ∷ 0 ∷ [] }
-{
-    fields(case, a as u64, b as u64, 0, 0, next)
 }
 
 // Writes the value of a case and its fields; the content of text, octets and bits is the whole lent slice.
@@ -92,12 +81,8 @@ pub extern "C" fn thaolisem_encode_value(
     ensures answer_after { answer.new ≡ told_write (value_named_to case a b c d content.now buf.old place).answer }
     ensures buf_after { buf.new ≡ (value_named_to case a b c d content.now buf.old place).buffer }
 {
-    match value_named(case, a, b, c, d) {
-        ValueNamed::Value(value) => {
-            *answer = written(values::encode(value, content, buf, place));
-        }
-        ValueNamed::Nothing => {
-            *answer = written(nothing_named(content.len(), buf, place));
-        }
-    }
+    *answer = written(match value_named(case, a, b, c, d) {
+        Some(value) => values::encode(value, content, buf, place),
+        None => Err(nothing_named(content.len(), buf, place)),
+    });
 }
