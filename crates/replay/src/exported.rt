@@ -1,63 +1,150 @@
-// Calls of the exported functions, in the table's order; `n` are the numbers of the line.
-use crate::number::{byte, signed, word};
+// Calls of the exported functions.
+use crate::request::Request;
 
-// Puts what the exported reader of that number answers into the answer.
-pub(crate) fn read(function: usize, n: [u64; 8], buf: &[u8], answer: &mut [u64; 8]) {
-    match function {
-        0 => thaolisem::thaolisem_decode_tag(buf, n[0] as usize, answer),
-        1 => thaolisem::thaolisem_decode_unsigned(word(n[0]), buf, n[1] as usize, answer),
-        2 => thaolisem::thaolisem_decode_signed(word(n[0]), buf, n[1] as usize, answer),
-        3 => thaolisem::thaolisem_get_tagged_body(n[0] as usize, buf, n[1] as usize, answer),
-        4 => thaolisem::thaolisem_get_tagged_body_for_tag(
-            byte(n[0]),
-            n[1] as usize,
-            buf,
-            n[2] as usize,
-            answer,
+// The eight numbers that a reader answers.
+pub(crate) fn read(request: &mut Request, room: &mut [u8]) -> Option<[u64; 8]> {
+    let mut answer = [0; 8];
+    match request.name {
+        "decode_tag" => {
+            thaolisem::thaolisem_decode_tag(request.bytes(room)?, request.number()?, &mut answer);
+        }
+        "decode_unsigned" => thaolisem::thaolisem_decode_unsigned(
+            request.number()?,
+            request.bytes(room)?,
+            request.number()?,
+            &mut answer,
         ),
-        5 => thaolisem::thaolisem_get_optional_tagged_body(
-            byte(n[0]),
-            n[1] as usize,
-            buf,
-            n[2] as usize,
-            answer,
+        "decode_signed" => thaolisem::thaolisem_decode_signed(
+            request.number()?,
+            request.bytes(room)?,
+            request.number()?,
+            &mut answer,
         ),
-        6 => thaolisem::thaolisem_walk(buf, n[0] as usize, answer),
-        7 => thaolisem::thaolisem_decode_value(buf, n[0] as usize, answer),
-        8 => thaolisem::thaolisem_decode_header(buf, n[0] as usize, answer),
-        _ => thaolisem::thaolisem_check_utf8(buf, answer),
+        "walk" => thaolisem::thaolisem_walk(request.bytes(room)?, request.number()?, &mut answer),
+        "decode_value" => {
+            thaolisem::thaolisem_decode_value(request.bytes(room)?, request.number()?, &mut answer);
+        }
+        "decode_header" => {
+            thaolisem::thaolisem_decode_header(
+                request.bytes(room)?,
+                request.number()?,
+                &mut answer,
+            );
+        }
+        "check_utf8" => thaolisem::thaolisem_check_utf8(request.bytes(room)?, &mut answer),
+        _ => return read_body(request, room),
     }
+    Some(answer)
 }
 
-// Puts what the exported writer of a tag, an integer or a boolean answers into the answer.
-fn write_tagged(function: usize, n: [u64; 8], buf: &mut [u8], answer: &mut [u64; 8]) {
-    let first = byte(n[0]);
-    let second = byte(n[1]);
-    let place = n[3] as usize;
-    match function {
-        16 => thaolisem::thaolisem_encode_tag(first, second, word(n[2]), buf, place, answer),
-        17 => thaolisem::thaolisem_encode_unsigned(first, second, n[2], buf, place, answer),
-        18 => thaolisem::thaolisem_encode_signed(first, second, signed(n[2]), buf, place, answer),
-        19 => thaolisem::thaolisem_encode_enumerated(first, second, n[2], buf, place, answer),
-        _ => thaolisem::thaolisem_encode_context_bool(first, second, buf, n[2] as usize, answer),
+// Those of a reader of bodies.
+fn read_body(request: &mut Request, room: &mut [u8]) -> Option<[u64; 8]> {
+    let mut answer = [0; 8];
+    match request.name {
+        "get_tagged_body" => thaolisem::thaolisem_get_tagged_body(
+            request.number()?,
+            request.bytes(room)?,
+            request.number()?,
+            &mut answer,
+        ),
+        "get_tagged_body_for_tag" => thaolisem::thaolisem_get_tagged_body_for_tag(
+            request.number()?,
+            request.number()?,
+            request.bytes(room)?,
+            request.number()?,
+            &mut answer,
+        ),
+        "get_optional_tagged_body" => thaolisem::thaolisem_get_optional_tagged_body(
+            request.number()?,
+            request.number()?,
+            request.bytes(room)?,
+            request.number()?,
+            &mut answer,
+        ),
+        _ => return None,
     }
+    Some(answer)
 }
 
-// Puts what the exported writer of that number answers into the answer.
+// The eight numbers that a writer answers.
 pub(crate) fn write(
-    function: usize,
-    n: [u64; 8],
-    content: &[u8],
+    request: &mut Request,
+    content: &mut [u8],
     buf: &mut [u8],
-    answer: &mut [u64; 8],
-) {
-    let first = byte(n[0]);
-    let place = n[5] as usize;
-    match function {
-        16..=20 => write_tagged(function, n, buf, answer),
-        21 => thaolisem::thaolisem_encode_value(
-            first, n[1], n[2], n[3], n[4], content, buf, place, answer,
+    place: usize,
+) -> Option<[u64; 8]> {
+    let mut answer = [0; 8];
+    match request.name {
+        "encode_tag" => thaolisem::thaolisem_encode_tag(
+            request.number()?,
+            request.number()?,
+            request.number()?,
+            buf,
+            place,
+            &mut answer,
         ),
-        _ => thaolisem::thaolisem_encode_header(first, n[1], n[2], n[3], n[4], buf, place, answer),
+        "encode_value" => thaolisem::thaolisem_encode_value(
+            request.number()?,
+            request.number()?,
+            request.number()?,
+            request.number()?,
+            request.number()?,
+            request.bytes(content)?,
+            buf,
+            place,
+            &mut answer,
+        ),
+        "encode_header" => thaolisem::thaolisem_encode_header(
+            request.number()?,
+            request.number()?,
+            request.number()?,
+            request.number()?,
+            request.number()?,
+            buf,
+            place,
+            &mut answer,
+        ),
+        _ => return write_integer(request, buf, place),
     }
+    Some(answer)
+}
+
+// Those of a writer of integers or of a Boolean under a context tag.
+fn write_integer(request: &mut Request, buf: &mut [u8], place: usize) -> Option<[u64; 8]> {
+    let mut answer = [0; 8];
+    match request.name {
+        "encode_unsigned" => thaolisem::thaolisem_encode_unsigned(
+            request.number()?,
+            request.number()?,
+            request.number()?,
+            buf,
+            place,
+            &mut answer,
+        ),
+        "encode_signed" => thaolisem::thaolisem_encode_signed(
+            request.number()?,
+            request.number()?,
+            request.number()?,
+            buf,
+            place,
+            &mut answer,
+        ),
+        "encode_enumerated" => thaolisem::thaolisem_encode_enumerated(
+            request.number()?,
+            request.number()?,
+            request.number()?,
+            buf,
+            place,
+            &mut answer,
+        ),
+        "encode_context_bool" => thaolisem::thaolisem_encode_context_bool(
+            request.number()?,
+            request.number()?,
+            buf,
+            place,
+            &mut answer,
+        ),
+        _ => return None,
+    }
+    Some(answer)
 }

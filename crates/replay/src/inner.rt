@@ -1,90 +1,69 @@
-// Calls of functions that are not exported, in the table's order; `n` are the numbers of the line.
-use crate::number::{byte, word};
-use crate::told;
-use numbers::{ByteRead, UnsignedRead};
-use tags::TagRead;
-use types::{ApplicationTagNumber, TagNumber};
+// Calls of functions that are not exported, told as the exported ones tell theirs.
+use crate::request::Request;
+use crate::told::told;
+use types::{Refusal, TagNumber};
 
-// Whether there is such a function, and its numbers name something: 2, 4 or 8 bytes; one of four classes, and of the first a number below 16.
-pub(crate) fn names(function: usize, n: [u64; 8]) -> bool {
-    match function {
-        11 => match n[0] {
-            2 | 4 | 8 => true,
-            _ => false,
+// The eight numbers of what a reader answers.
+pub(crate) fn read(request: &mut Request, room: &mut [u8]) -> Option<[u64; 8]> {
+    Some(match request.name {
+        "read_byte" => told(numbers::read_byte(request.bytes(room)?, request.number()?)),
+        "read_bytes" => match request.number::<u8>()? {
+            2 => told(numbers::read_two_bytes(request.bytes(room)?, request.number()?)),
+            4 => told(numbers::read_four_bytes(request.bytes(room)?, request.number()?)),
+            8 => told(numbers::read_eight_bytes(request.bytes(room)?, request.number()?)),
+            _ => return None,
         },
-        13..=14 => match n[0] {
-            1 => n[1] < 16,
-            2..=4 => true,
-            _ => false,
-        },
-        _ => function <= 28,
-    }
+        "read_slice" => {
+            told(numbers::read_slice(request.number()?, request.bytes(room)?, request.number()?))
+        }
+        "decode_expected" => {
+            told(tags::decode_expected(
+                request.tag_number()?,
+                request.bytes(room)?,
+                request.number()?,
+            ))
+        }
+        "expect_number" => {
+            told(expect_number(
+                request.tag_number()?,
+                request.bytes(room)?,
+                request.number()?,
+            ))
+        }
+        "expect_value" => told(expect_value(
+            request.number()?,
+            request.bytes(room)?,
+            request.number()?,
+        )),
+        _ => return None,
+    })
 }
 
-// The tag number of a class and a number.
-fn expected(class: u64, number: u8) -> TagNumber {
-    match class {
-        1 => TagNumber::Application(ApplicationTagNumber::named(number)),
-        2 => TagNumber::ContextSpecific(number),
-        3 => TagNumber::ContextSpecificOpening(number),
-        _ => TagNumber::ContextSpecificClosing(number),
-    }
+// Reads the tag at a place and holds it to the class and number expected.
+fn expect_number(expected: TagNumber, buf: &[u8], place: usize) -> Result<((), usize), Refusal> {
+    let (tag, next) = tags::decode(buf, place)?;
+    Ok((tags::expect_number(tag, expected)?, next))
 }
 
-// What the read of 2, 4 or 8 bytes answers.
-fn read_bytes(count: u64, buf: &[u8], place: usize) -> [u64; 8] {
-    match count {
-        2 => told::word(numbers::read_two_bytes(buf, place)),
-        4 => told::word(numbers::read_four_bytes(buf, place)),
-        _ => match numbers::read_eight_bytes(buf, place) {
-            UnsignedRead::Unsigned(value, next) => told::accepted(next, value, 0),
-            UnsignedRead::Refused(refusal) => told::refused(refusal),
-        },
-    }
+// Reads the tag at a place and holds it to the value expected.
+fn expect_value(expected: u32, buf: &[u8], place: usize) -> Result<((), usize), Refusal> {
+    let (tag, next) = tags::decode(buf, place)?;
+    Ok((tags::expect_value(tag, expected)?, next))
 }
 
-// What a reader of bytes answers, which are the first three.
-fn read_plain(function: usize, n: [u64; 8], buf: &[u8]) -> [u64; 8] {
-    match function {
-        10 => match numbers::read_byte(buf, n[0] as usize) {
-            ByteRead::Byte(byte, next) => told::accepted(next, byte as u64, 0),
-            ByteRead::Refused(refusal) => told::refused(refusal),
-        },
-        11 => read_bytes(n[0], buf, n[1] as usize),
-        _ => told::slice(numbers::read_slice(word(n[0]), buf, n[1] as usize)),
-    }
-}
-
-// What the reader of that number answers.
-pub(crate) fn read(function: usize, n: [u64; 8], buf: &[u8]) -> [u64; 8] {
-    match function {
-        10..=12 => read_plain(function, n, buf),
-        13 => match tags::decode_expected(expected(n[0], byte(n[1])), buf, n[2] as usize) {
-            TagRead::Read(tag, next) => told::tag(0, next, tag),
-            TagRead::Refused(refusal) => told::refused(refusal),
-        },
-        14 => match tags::decode(buf, n[2] as usize) {
-            TagRead::Read(tag, next) => told::outcome(
-                tags::expect_number(tag, expected(n[0], byte(n[1]))),
-                next,
-            ),
-            TagRead::Refused(refusal) => told::refused(refusal),
-        },
-        _ => match tags::decode(buf, n[1] as usize) {
-            TagRead::Read(tag, next) => told::outcome(tags::expect_value(tag, word(n[0])), next),
-            TagRead::Refused(refusal) => told::refused(refusal),
-        },
-    }
-}
-
-// What the writer of that number answers.
-pub(crate) fn write(function: usize, n: [u64; 8], content: &[u8], buf: &mut [u8]) -> [u64; 8] {
-    let first = byte(n[0]);
-    let place = n[1] as usize;
-    match function {
-        23 => told::written(numbers::push(first, buf, place)),
-        24 => told::written(tags::encode_opening_tag(first, buf, place)),
-        25 => told::written(tags::encode_closing_tag(first, buf, place)),
-        _ => told::written(numbers::extend_from_slice(content, buf, n[0] as usize)),
-    }
+// The eight numbers of what a writer answers.
+pub(crate) fn write(
+    request: &mut Request,
+    content: &mut [u8],
+    buf: &mut [u8],
+    place: usize,
+) -> Option<[u64; 8]> {
+    let written = match request.name {
+        "push" => numbers::push(request.number()?, buf, place),
+        "encode_opening_tag" => tags::encode_opening_tag(request.number()?, buf, place),
+        "encode_closing_tag" => tags::encode_closing_tag(request.number()?, buf, place),
+        "extend_from_slice" => numbers::extend_from_slice(request.bytes(content)?, buf, place),
+        _ => return None,
+    };
+    Some(told(written.map(|next| ((), next))))
 }
