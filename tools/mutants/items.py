@@ -55,12 +55,20 @@ def declare(source, index, end, owner):
             index = makers[token.text](source, index + 1, owner)
         elif token.text == "impl":
             opening = following(source, index, "{")
-            declare(source, opening + 1, source.partners[opening], (source.tokens[index + 1].text,))
+            declare(source, opening + 1, source.partners[opening], (owner_of([t.text for t in source.tokens[index + 1 : opening]]),))
             index = source.partners[opening] + 1
         elif token.text == "ghost":
             index = following(source, index, ";") + 1
         else:
             index += 1
+
+
+def owner_of(words):
+    """The name under which the prover tells of an impl's functions: its type's, and of a trait's impl the trait's behind it."""
+    if "for" not in words:
+        return words[0]
+    trait, kind = words[0], words[words.index("for") + 1]
+    return kind[0].upper() + kind[1:] + trait
 
 
 def following(source, index, text):
@@ -98,6 +106,9 @@ def function(source, index, owner):
     while source.tokens[index].text in CLAUSES:
         # behind the word the clause's name may stand
         index = source.partners[following(source, index, "{")] + 1
+    if source.tokens[index].text == ";":
+        # a trait's method, which its impls have
+        return index + 1
     last = source.partners[index]
     source.functions.append(Function(owner + (name,), parameters, result, index, last))
     return last + 1

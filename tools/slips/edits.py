@@ -4,7 +4,7 @@ import re
 from typing import NamedTuple
 
 FUNCTION = re.compile(r'(    )?(?:pub(?:\([a-z]+\))? )?(?:const )?(?:unsafe )?(?:extern "C" )?fn (\w+)')
-IMPL = re.compile(r"impl(?:<.*?>)? (?:.* for )?(\w+)")
+IMPL = re.compile(r"impl(?:<.*?>)? (?:(\w+)(?:<(.*)>)? for )?(\w+)")
 
 
 class Slip(NamedTuple):
@@ -52,7 +52,7 @@ def pieces_of(text):
     for number, line in enumerate(text.splitlines(keepends=True), 1):
         impl, function = IMPL.match(line), FUNCTION.match(line)
         if impl:
-            owner = impl[1]
+            owner = "".join(word and word[0].upper() + word[1:] for word in (impl[3], impl[1] or "", impl[2] or ""))
         if function and name is None:
             found.append(Piece(None, "".join(lines), first))
             name, lines, first = "/".join(filter(None, (owner if function[1] else None, function[2]))), [], number
@@ -71,10 +71,25 @@ def module_of(file):
     return "" if path.name in ("lib", "main") else "/".join(path.parts[1:]) + "/"
 
 
+def homes_of(crate):
+    """The modules of a crate's types, by their names."""
+    homes = {}
+    for path in sorted(crate.glob("src/**/*.rt")):
+        for declared in re.finditer(r"^(?:pub(?:\([a-z]+\))? )?(?:struct|enum) (\w+)", path.read_text(), re.MULTILINE):
+            homes[declared[1]] = module_of(str(path.relative_to(crate)))
+    return homes
+
+
+def named_in(homes, file, name):
+    """A function of a file as the checker names it: a type's by the file that declares the type."""
+    return homes.get(name.split("/")[0], module_of(file)) + name if "/" in name else module_of(file) + name
+
+
 class Gathered:
     """A gathered edit of a crate: the files' texts before and after it."""
 
     def __init__(self, crate, edit):
+        self.homes = homes_of(crate)
         self.slips = slips_of(edit.read_text())
         self.before, self.after, self.outside = {}, {}, {}
         for slip in self.slips:
@@ -105,7 +120,11 @@ class Gathered:
         before, after = (self.pieces(file, texts[file]) for texts in (self.before, self.after))
         if [p.name for p in before] != [p.name for p in after]:
             raise SystemExit(f"an edit changes which functions {file} has")
-        return [module_of(file) + p.name for p, q in zip(before, after) if p.name and p.text != q.text]
+        return [self.named(file, p.name) for p, q in zip(before, after) if p.name and p.text != q.text]
+
+    def named(self, file, name):
+        """A function of a file as the checker names it: a type's by the file that declares the type."""
+        return named_in(self.homes, file, name)
 
     def note_cycles(self, file, text):
         """Notes the functions of a file that stand in a cycle of calls, by the cycle's name."""
@@ -113,7 +132,7 @@ class Gathered:
         for head, function in zip(pieces, pieces[1:]):
             cycle = re.search(r"#\[cycle\((\w+)\)\]\s*(?:#\[.*\]\s*)*\Z", head.text)
             if cycle and function.name:
-                self.cycles.setdefault(module_of(file) + "+" + cycle[1], []).append(module_of(file) + function.name)
+                self.cycles.setdefault(module_of(file) + "+" + cycle[1], []).append(self.named(file, function.name))
 
     def functions(self, place):
         """The functions that a place of an `in:` line names: one, or those of a cycle of calls."""
@@ -129,7 +148,7 @@ class Gathered:
             outside = self.outside.get(file, set()) & slips
             taken = []
             for old, new in zip(self.pieces(file, before), self.pieces(file, self.after[file])):
-                is_wanted = module_of(file) + old.name in functions if old.name else outside
+                is_wanted = self.named(file, old.name) in functions if old.name else outside
                 taken.append(new.text if is_wanted else old.text)
             made[file] = "".join(taken)
         return made

@@ -47,7 +47,8 @@ def notes_of(log, function, texts):
     for file, text in texts.items():
         pieces = pieces_of(text)
         for head, piece in zip(pieces, pieces[1:]):
-            if piece.name and module_of(file) + piece.name == function:
+            # a type's function is named by the file that declares the type
+            if piece.name and (module_of(file) + piece.name == function or function.endswith("/" + piece.name) and "/" in piece.name):
                 attributes = re.search(r"(?:^ *#\[.*\]\n)*\Z", head.text, re.MULTILINE)[0].count("\n")
                 lines = range(piece.line - attributes, piece.line + piece.text.count("\n"))
                 said = re.findall(rf"^note: {re.escape(file)}:(\d+):\d+: (it is not proved that .*)$", log, re.MULTILINE)
