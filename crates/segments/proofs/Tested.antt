@@ -11,7 +11,8 @@ use Rattle.types.specs.Answer.{Answer, accepted, refused, Outcome, passed}
 use Rattle.types.specs.Writing.{Left, left, write_answer, writing}
 use Rattle.segments.specs.State.{State}
 use Rattle.segments.specs.Segment.{service_part}
-use Rattle.segments.specs.Taking.{After, after, put_behind, answer_then, as_due, joining, after_outcome, takes}
+use Rattle.segments.specs.Put.{put_into}
+use Rattle.segments.specs.Taking.{After, after, answer_then, as_due, joining, after_outcome, takes}
 use Rattle.segments.specs.Taking as taking
 
 -- then the bytes of the header decide, and after them the room
@@ -25,7 +26,7 @@ as_put f (accepted u held) ys = after (answer_then f held) ys
 as_put f (refused n c) ys = after (taking.refused n c) ys
 
 -- where the frame is the one due, that decides
-put_due : (s : State) (f xs : List ℕ) → length xs ≤ 65535 → length f ≤ 65535 → (a : Answer (Unit {0})) (ys : List ℕ) → left a ys ≡ put_behind s.held (service_part f) xs → as_put f a ys ≡ joining s f xs
+put_due : (s : State) (f xs : List ℕ) → length xs ≤ 65535 → length f ≤ 65535 → (a : Answer (Unit {0})) (ys : List ℕ) → left a ys ≡ put_into s.held (service_part f) xs → as_put f a ys ≡ joining s f xs
 unfolding joining writing write_answer
 put_due s f xs short frame a ys e = ap (λ (l : Left). as_put f l.answer l.buffer) e ∙ go (ltb (length xs) s.held) refl (ltb (length xs) (s.held + length (service_part f))) refl
   where
@@ -33,7 +34,7 @@ put_due s f xs short frame a ys e = ap (λ (l : Left). as_put f l.answer l.buffe
     part = omega (arith, length-drop 5 f)
 
     go : (past : Bool) → ltb (length xs) s.held ≡ past → (full : Bool) → ltb (length xs) (s.held + length (service_part f)) ≡ full
-        → (let w = put_behind s.held (service_part f) xs in as_put f w.answer w.buffer ≡ joining s f xs)
+        → (let w = put_into s.held (service_part f) xs in as_put f w.answer w.buffer ≡ joining s f xs)
     go true p true b = simp (p, b)
     go true p false b = let h = ltb-true (length xs) s.held p in let k = ltb-false (length xs) (s.held + length (service_part f)) b in absurd (omega arith)
     go false p true b = simp (le-ltb 65535 (length xs) short, le-ltb 65535 (length (service_part f)) part, p, b)
@@ -49,7 +50,7 @@ whole f g = go (ltb (length f) 5) refl
 
 -- so it is taken as its part is put, where the tests of the state and of the lengths are past and it is the one due
 pub taken_as_put : (s : State) (f g xs : List ℕ) → s.finished ≡ false → length xs ≤ 65535 → length f ≤ 65535 → Ok g ≡ (if (ltb (length f) 5) (Err (BytesRunOut (length f))) (Ok f)) → passed ≡ as_due s g
-    → (a : Answer (Unit {0})) (ys : List ℕ) → left a ys ≡ put_behind s.held (service_part g) xs → as_put g a ys ≡ takes s f xs
+    → (a : Answer (Unit {0})) (ys : List ℕ) → left a ys ≡ put_into s.held (service_part g) xs → as_put g a ys ≡ takes s f xs
 taken_as_put s f g xs going short frame read due a ys e =
     let w = whole f g read in
     let l : length g ≤ 65535 = rw w.0 frame in

@@ -1,5 +1,6 @@
 pub mod State
 pub mod Segment
 pub mod Taking
+pub mod Put
 pub mod Accepts
 pub mod Calls

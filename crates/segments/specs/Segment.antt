@@ -1,9 +1,8 @@
 -- A segment of a complex acknowledgement (ASHRAE 135, 20.1.5, with segmented-message true): a control byte, then original-invokeID, sequence-number, proposed-window-size and service-ACK-choice, a byte each, and then its part of the service's bytes.
 -- Assumes nothing.
-use Rattle.std.specs.Prelude.{ℕ, ◌/◌, ◌%◌, Bool, false, List, ◌∷◌, drop, ◌==◌, slice_index}
+use Rattle.std.specs.Prelude.{ℕ, ◌/◌, ◌%◌, Bool, false, List, drop, ◌==◌, slice_index}
 use Rattle.types.specs.Choice.{if}
 use Rattle.headers.specs.Header.{complex, row_of}
-use Rattle.segments.specs.declared.segment.Segment as program
 
 abbrev pub control_of : List ℕ → ℕ
 control_of f = slice_index f 0
@@ -31,7 +30,3 @@ tells_segment control = if (control / 16 == (row_of complex).pdu_type) (control 
 -- its bit 2: more segments follow (bits 1 and 0 are not read)
 abbrev pub more_follow : List ℕ → Bool
 more_follow f = control_of f / 4 % 2 == 1
-
--- the bytes of the program's segment, the whole frame
-abbrev pub segment_bytes : program.Segment → List ℕ
-segment_bytes s = s.control ∷ s.id ∷ s.sequence ∷ s.window ∷ s.choice ∷ s.part.now

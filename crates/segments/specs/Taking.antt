@@ -4,8 +4,7 @@ use Rattle.std.specs.Prelude.{ℕ, ◌+◌, ◌%◌, Bool, true, false, not, Lis
 use Rattle.types.specs.Choice.{if}
 use Rattle.types.specs.Refusal.{Carried, amount, table}
 use Rattle.types.specs.Answer.{Outcome, passed, stopped}
-use Rattle.types.specs.Answer as answer
-use Rattle.types.specs.Writing.{Left, left, can, over, writing}
+use Rattle.types.specs.Writing.{over}
 use Rattle.segments.specs.State.{State, state, state_of}
 use Rattle.segments.specs.Segment.{control_of, invoke_id_of, sequence_of, window_of, choice_of, service_part, tells_segment, more_follow}
 use Rattle.types.specs.declared.refusal.Refusal.{Refusal}
@@ -57,10 +56,6 @@ unfoldable pub joining : State → List ℕ → List ℕ → After
 joining s f xs =
     if (nat_lt (length xs) (s.held + length (service_part f))) (after (refused 13 (amount (length (service_part f)))) xs)
     (after (answer_then f (s.held + length (service_part f))) (over xs s.held (service_part f)))
-
--- a part put behind so many bytes held, on the way there: where more are held than the buffer has there is no room, and else it is a write
-abbrev pub put_behind : (held : ℕ) → List ℕ → List ℕ → Left
-put_behind held part xs = if (nat_lt (length xs) held) (left (answer.refused 13 (amount (length part))) xs) (writing (length part) can part xs held)
 
 abbrev pub after_outcome : List ℕ → Outcome → After → After
 after_outcome xs passed a = a

@@ -5,7 +5,7 @@ ghost use Rattle.types.specs.Choice.{if};
 ghost use Rattle.types.specs.Answer.{paper_outcome};
 ghost use Rattle.types.specs.declared.refusal.Refusal.TheVariants.{BytesRunOut};
 ghost use Rattle.segments.specs.State.{state_of};
-ghost use Rattle.segments.specs.Segment.{segment_bytes};
+ghost use Rattle.segments.specs.Put.{segment_bytes};
 ghost use Rattle.segments.specs.Taking.{as_due, answer_then, paper_taken};
 
 use crate::state::State;

@@ -2,7 +2,8 @@
 ghost use Rattle.std.specs.Prelude.{◌≡◌};
 ghost use Rattle.segments.specs.State.{first_state, state_of};
 ghost use Rattle.types.specs.Writing.{left, paper_written};
-ghost use Rattle.segments.specs.Taking.{same_answer, put_behind};
+ghost use Rattle.segments.specs.Put.{put_into};
+ghost use Rattle.segments.specs.Taking.{same_answer};
 
 use types::Refusal;
 
@@ -42,7 +43,7 @@ impl State {
 
     // Puts a part behind the bytes held, and answers how many are held then: 13 carries its length where it has no room, or more are held than the buffer has.
     pub(crate) fn put(self, part: &[u8], buf: &mut [u8]) -> Result<usize, Refusal>
-        ensures { left (paper_written result) buf.new ≡ put_behind self.held part.now buf.old }
+        ensures { left (paper_written result) buf.new ≡ put_into self.held part.now buf.old }
     {
         if buf.len() < self.held {
             return Err(Refusal::NoRoom(part.len()));

@@ -17,7 +17,6 @@ pub struct Accepted {
 
 // The tag at a place where so many blocks are open, with its content.
 #[tactic(auto, unfolding(crate::specs::Tag::tag_at))]
-#[inline(always)]
 pub fn tag_at(buf: &[u8], place: usize, blocks: usize) -> Result<Accepted, Refusal>
     ensures { paper_tag_at result ≡ tag_at buf.now place blocks }
 {
@@ -27,7 +26,6 @@ pub fn tag_at(buf: &[u8], place: usize, blocks: usize) -> Result<Accepted, Refus
 
 // The tag of the item at a place, with the place after its content.
 #[tactic(auto, using(tags::proofs::Exactly::moves_on), unfolding(crate::specs::Tag::item_from))]
-#[inline(always)]
 fn item_at(buf: &[u8], place: usize) -> Result<(Tag, usize), Refusal>
     ensures { paper_tag result ≡ item_from buf.now place }
 {
@@ -41,7 +39,6 @@ fn item_at(buf: &[u8], place: usize) -> Result<(Tag, usize), Refusal>
 
 // A tag with its depth and the blocks open after it, or 15 or 16 with its place.
 #[tactic(auto, unfolding(crate::specs::Tag::stands_at))]
-#[inline(always)]
 fn stands_at(place: usize, blocks: usize, tag: Tag, next: usize) -> Result<Accepted, Refusal>
     ensures { paper_tag_at result ≡ stands_at place blocks (tag_of tag) next }
 {

@@ -3,7 +3,7 @@
 use native.Mathlib.Omega.{arith}
 use borrow.Author.Rules.{rules}
 use Rattle.segments.specs.State.{state_of}
-use Rattle.segments.specs.Segment.{segment_bytes}
+use Rattle.segments.specs.Put.{segment_bytes}
 use Rattle.segments.proofs.Tested.{taken_as_put}
 use Rattle.segments.proofs.taking.take.Goals as goal
 
