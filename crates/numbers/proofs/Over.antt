@@ -1,13 +1,13 @@
 -- Bytes of a buffer replaced, one at a time and all at once.
 -- Assumes nothing.
 use mathlib.Core.Path.{◌≡◌, ◌∙◌, ap, sym}
-use Prim.Native.Nat.{ℕ, ◌+◌, ◌-◌, ◌/◌, ◌%◌, ◌^◌, ◌<◌}
+use Prim.Native.Nat.{ℕ, ◌+◌, ◌/◌, ◌%◌, ◌^◌, ◌<◌}
 use native.Mathlib.Nat.{add-zero}
 use native.Mathlib.Numerals.{add-one}
 use native.Mathlib.Omega.{arith}
 use mathlib.Core.List.{List, [], ◌∷◌, ◌++◌, append_assoc}
 use lib.ListN.{length, take, drop, set, get_or, take-append-drop}
-use lib.Seq.{set_split, take-suc, set-append_seam, length-take-le, drop-drop}
+use lib.Seq.{set_split, take-suc, set-append_seam, length-take-le, paste, take_all}
 use Rattle.types.specs.Writing.{over}
 use Rattle.numbers.specs.Integer.{low_bytes}
 use Rattle.numbers.proofs.Low.{low_bytes_length, low_bytes_more}
@@ -16,11 +16,9 @@ use Rattle.numbers.proofs.Low.{low_bytes_length, low_bytes_more}
 pub one_replaced : (xs : List ℕ) (place b : ℕ) → place < length xs → set xs place b ≡ over xs place (b ∷ [])
 one_replaced xs place b h = set_split xs place b h ∙ rw (add-one place)
 
--- a slice copied replaces as many bytes
-pub slice_replaced : (xs : List ℕ) (place next : ℕ) (bytes : List ℕ) → next ≡ place + length bytes → take place xs ++ (bytes ++ drop (next - place) (drop place xs)) ≡ over xs place bytes
-slice_replaced xs place next bytes e =
-    let n : next - place ≡ length bytes = omega arith in
-    rw (n, drop-drop)
+-- a whole list pasted replaces as many bytes
+pub paste_all : (xs : List ℕ) (place : ℕ) (bytes : List ℕ) → paste xs place bytes (length bytes) ≡ over xs place bytes
+paste_all xs place bytes = rw (take_all (length bytes) bytes (omega arith), append_assoc)
 
 -- low bytes written from the last to the first: none yet
 pub none_written : (xs : List ℕ) (end : ℕ) → xs ≡ take end xs ++ drop end xs

@@ -71,7 +71,7 @@ pub fn unsigned_length(value: u64) -> usize
 }
 
 // The least number of bytes that holds a signed integer in two's complement, by both ends of what each length holds (ASHRAE 135, 20.2.5).
-// The shortest is tested first (K5): a `match` on ranges tests them in another order, and of a range's `contains` the check learns too little where it is false.
+// The shortest is tested first (K5): a `match` on ranges, each of which holds the one before, is tested in another order, and of a range's `contains` the check learns too little where it is false.
 pub fn signed_length(value: i64) -> usize
     ensures value { result ≡ signed_length value }
     ensures result_nonzero { (0 < result) × (result < 9) }

@@ -1,6 +1,6 @@
 // Bytes and integers written at a place of a lent buffer.
-ghost use Rattle.std.specs.Prelude.{◌≡◌, [], ◌∷◌, length};
-ghost use Rattle.types.specs.Writing.{paper_written, can, left, write_answer, writing};
+ghost use Rattle.std.specs.Prelude.{◌≡◌, [], ◌∷◌, ◌+◌, ◌≤◌, length};
+ghost use Rattle.types.specs.Writing.{paper_written, can, left, over, write_answer, writing};
 ghost use Rattle.numbers.specs.Integer.{low_bytes, pattern_of, unsigned_bytes, signed_bytes};
 
 use crate::integer::{signed_length, unsigned_length};
@@ -37,13 +37,23 @@ pub fn push(item: u8, buf: &mut [u8], place: usize) -> Result<usize, Refusal>
 }
 
 // Writes a lent slice.
-#[tactic(auto, using(crate::proofs::Inside::room_inside, crate::proofs::Over::slice_replaced), unfolding(types::specs::Writing::writing))]
+#[tactic(auto, using(crate::proofs::Inside::room_inside), unfolding(types::specs::Writing::writing))]
 pub fn extend_from_slice(src: &[u8], buf: &mut [u8], place: usize) -> Result<usize, Refusal>
     ensures { left (paper_written result) buf.new ≡ writing (length src.now) can src.now buf.old place }
 {
     let next = room(src.len(), src.len(), buf, place)?;
-    buf[place..next].copy_from_slice(src);
+    copy(src, buf, place);
     Ok(next)
+}
+
+// Puts a slice from a place on. No `copy_from_slice`: that is the C library's `memmove`, which the archive for C would then need from outside.
+fn copy(src: &[u8], buf: &mut [u8], place: usize)
+    requires { place + length src.now ≤ length buf.old }
+    ensures { buf.new ≡ over buf.old place src.now }
+{
+    for (i, byte) in src.iter().enumerate() {
+        buf[place + i] = *byte;
+    }
 }
 
 // Writes so many low bytes of a number, most significant first.
