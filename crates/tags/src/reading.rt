@@ -142,8 +142,8 @@ fn value_after(low: u8, buf: &[u8], place: usize) -> Result<(u32, usize), Refusa
     };
     let next = place + 1;
     match byte {
+        0..=253 => Ok((u32::from(byte), next)),
         254 => numbers::read_two_bytes(buf, next),
-        255 => numbers::read_four_bytes(buf, next),
-        value => Ok((u32::from(value), next)),
+        _ => numbers::read_four_bytes(buf, next),
     }
 }
