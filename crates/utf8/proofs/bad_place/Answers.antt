@@ -1,19 +1,18 @@
--- `check` meets its contract: before `place` there are whole sequences alone, so the answer on the text is the answer from `place` on;
+-- `bad_place` meets its contract: before `place` there are whole sequences alone, so the answer on the text is the answer from `place` on;
 -- the inner loop has passed some of the bytes that are to follow, and leaves by label where one is wrong. Assumes nothing.
-use mathlib.Core.Path.{◌≡◌, refl, sym, ap, ◌∙◌}
+use mathlib.Core.Path.{◌≡◌, refl, sym, ◌∙◌}
 use mathlib.Core.Bool.{true, false}
 use Prim.Native.Nat.{suc, ◌+◌, ◌-◌, ◌<◌, ◌≤◌}
 use native.Mathlib.Omega.{arith}
 use lib.ListN.{length, drop, length-drop}
 use Rattle.utf8.specs.Table.{UTF8-char}
 use Rattle.utf8.specs.Check.{begins, sequence_length, check_of}
-use Rattle.utf8.specs.Answer.{text_outcome}
 use Rattle.utf8.specs.Lead.{ranges}
 use Rattle.utf8.proofs.Places.{check_at, end_good, none_bad, sequence_leads}
 use Rattle.utf8.proofs.Following.{stray_begins_none, wrong_begins_none, right_begins, nothing_left, cut_wrong, byte_passed, low_wrong, high_wrong, part_at, part_length}
 use Rattle.utf8.proofs.Runs.{run_ends, run_passed, goes_ahead}
-use Rattle.utf8.proofs.check.Goals.{else-sequences-test, then-sequences-test+else-is_ascii+in_default, then-sequences-test+else-is_ascii+in-Some+then-rest-count, then-sequences-test+else-is_ascii+in-Some+else-rest-count+then-loop-byte-test+then-byte-lowest, then-byte-lowest-via-then-byte-lowest, then-byte-lowest-via-else-byte-lowest+then-highest-byte}
-use Rattle.utf8.proofs.check.Goals as goal
+use Rattle.utf8.proofs.bad_place.Goals.{else-sequences-test, then-sequences-test+else-is_ascii+in_default, then-sequences-test+else-is_ascii+in-Some+then-rest-count, then-sequences-test+else-is_ascii+in-Some+else-rest-count+then-loop-byte-test+then-byte-lowest, then-byte-lowest-via-then-byte-lowest, then-byte-lowest-via-else-byte-lowest+then-highest-byte}
+use Rattle.utf8.proofs.bad_place.Goals as goal
 
 pub sequences-init : goal.sequences-init
 unfolding check_at check_of
@@ -82,9 +81,9 @@ returns-then-place-text c =
           ] in
           wrong_begins_none text place h f w.in-Some.ensures (i.invariant ∙ wrong)
     ] in
-    ap text_outcome (sym (c.sequences.invariant.1 ∙ none_bad text place h none_begins))
+    sym (c.sequences.invariant.1 ∙ none_bad text place h none_begins)
 
 pub returns-else-place-text : goal.returns-else-place-text
 returns-else-place-text c =
     let text = c.args.text.now in
-    ap text_outcome (sym (c.sequences.invariant.1 ∙ end_good text c.sequences.place c.if-place-text.false))
+    sym (c.sequences.invariant.1 ∙ end_good text c.sequences.place c.if-place-text.false)
