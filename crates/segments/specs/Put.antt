@@ -1,6 +1,6 @@
 -- About the code alone: the bytes of the struct that a frame is read into, and what putting its part leaves. No promise to a caller cites this.
 -- Assumes nothing.
-use Rattle.std.specs.Prelude.{ℕ, List, ◌∷◌, length, nat_lt}
+use Rattle.std.specs.Prelude.{ℕ, List, length, nat_lt}
 use Rattle.types.specs.Choice.{if}
 use Rattle.types.specs.Refusal.{amount}
 use Rattle.types.specs.Answer.{refused}
@@ -9,7 +9,7 @@ use Rattle.segments.specs.declared.segment.Segment.{Segment}
 
 -- the bytes of the program's segment, the whole frame
 abbrev pub segment_bytes : Segment → List ℕ
-segment_bytes s = s.control ∷ s.id ∷ s.sequence ∷ s.window ∷ s.choice ∷ s.part.now
+segment_bytes s = s.frame.now
 
 -- a part put behind so many bytes held: where more are held than the buffer has there is no room, and else it is a write
 abbrev pub put_into : (held : ℕ) → List ℕ → List ℕ → Left

@@ -38,7 +38,11 @@ impl State {
     pub(crate) fn is_of(self, id: u8, choice: u8) -> bool
         ensures { result ≡ same_answer (state_of self) id choice }
     {
-        !self.begun || u64::from(id) == self.id && u64::from(choice) == self.choice
+        if self.begun {
+            u64::from(id) == self.id && u64::from(choice) == self.choice
+        } else {
+            true
+        }
     }
 
     // Puts a part behind the bytes held, and answers how many are held then: 13 carries its length where it has no room, or more are held than the buffer has.

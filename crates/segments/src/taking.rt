@@ -30,6 +30,6 @@ pub fn take(state: State, frame: &[u8], buf: &mut [u8]) -> Result<Taken, Refusal
     }
     let segment = Segment::of(frame)?;
     segment.due(state)?;
-    let held = state.put(segment.part, buf)?;
+    let held = state.put(segment.part(), buf)?;
     Ok(segment.taken(held))
 }

@@ -9,10 +9,10 @@ use Rattle.segments.proofs.taking.take.Goals as goal
 
 pub returns-in_err-held : goal.returns-in_err-held
 returns-in_err-held c =
-    let w = taken_as_put (state_of c.args.state) c.args.frame.now (segment_bytes c.in_ok-segment.segment) c.args.buf.now c.if-state.false (omega arith) (omega arith) c.in_ok-segment.ensures c.in_ok-due.ensures _ _ c.in_err-held.ensures in
+    let w = taken_as_put (state_of c.args.state) c.args.frame.now (segment_bytes c.in_ok-segment.segment) c.args.buf.now c.if-state.false (omega arith) (omega arith) c.in_ok-segment.ensures c.in_ok-due.ensures _ _ (rw c.part.ensures at c.in_err-held.ensures) in
     search (rules, w)
 
 pub returns : goal.returns
 returns c =
-    let w = taken_as_put (state_of c.args.state) c.args.frame.now (segment_bytes c.in_ok-segment.segment) c.args.buf.now c.if-state.false (omega arith) (omega arith) c.in_ok-segment.ensures c.in_ok-due.ensures _ _ c.in_ok-held.ensures in
+    let w = taken_as_put (state_of c.args.state) c.args.frame.now (segment_bytes c.in_ok-segment.segment) c.args.buf.now c.if-state.false (omega arith) (omega arith) c.in_ok-segment.ensures c.in_ok-due.ensures _ _ (rw c.part.ensures at c.in_ok-held.ensures) in
     rw c.taken.ensures w
