@@ -28,9 +28,9 @@ pub fn encode_item(
         return Err(Refusal::BufferTooLong(lent.len()));
     }
     let next = begin_item(number, head, count, lent.len(), buf, place)?;
-    // Room was tested for the lent bytes too, so they are written. (Document 01 asks that the rest of the buffer be lent on.)
-    let len = numbers::extend_from_slice(lent, &mut buf[next..], 0)?;
-    Ok(next + len)
+    // Room was tested for the lent bytes too, so they are written, and end there. (Document 01 asks that the rest of the buffer be lent on.)
+    numbers::extend_from_slice(lent, &mut buf[next..], 0)?;
+    Ok(next + lent.len())
 }
 
 // Writes an item of which nothing is lent: the tag of that class and number, then `value` in `count` bytes, most significant first.
@@ -61,7 +61,7 @@ pub(crate) fn begin_item(
 {
     let value = u32::from(count) + more as u32;
     let next = begin(Tag { number, value }, value, buf, place)?;
-    // Room was tested for these bytes too, so they are written.
-    let written = numbers::write_low_bytes(head, count as usize, &mut buf[next..], 0)?;
-    Ok(next + written)
+    // Room was tested for these bytes too, so they are written, and end there.
+    numbers::write_low_bytes(head, count as usize, &mut buf[next..], 0)?;
+    Ok(next + count as usize)
 }
