@@ -87,10 +87,12 @@ module _ (s : List ℕ) (place count low high : ℕ) (some_left : 0 < count) whe
   pub high_wrong : place < length s → high < get_or s place 0 → begins (ranges count low high) (drop place s) ≡ false
   high_wrong h a = one_byte h ∙ rw (above_range low high (get_or s place 0) a)
 
--- a byte of a part of the text
-pub part_at : (s : List ℕ) (place n i : ℕ) → i < n → place + n ≤ length s → get_or (take n (take (length s - place) (drop place s))) i 0 ≡ get_or s (place + i) 0
-part_at s place n i l room = rw (get_or-take n (take (length s - place) (drop place s)) i 0 l, get_or-take (length s - place) (drop place s) i 0 (omega arith), get_or-drop)
+-- a byte of a part of the text is one of those asked for, stands in the text, and is its byte
+pub byte_of_part : (s : List ℕ) (place : ℕ) {n i : ℕ} → i < length (take n (drop place s)) → (i < n) × (place + i < length s) × (get_or (take n (drop place s)) i 0 ≡ get_or s (place + i) 0)
+byte_of_part s place {n} {i} h =
+    let l : i < n = omega (arith, length-take n (drop place s)) in
+    (l, omega (arith, length-take n (drop place s), length-drop place s), rw (get_or-take n (drop place s) i 0 l, get_or-drop))
 
--- how many bytes such a part has
-pub part_length : (s : List ℕ) (place n : ℕ) → place + n ≤ length s → length (take n (take (length s - place) (drop place s))) ≡ n
-part_length s place n room = simp (length-take, length-drop) (omega arith)
+-- where the part ends inside the text, behind its last byte all that were asked for are passed
+pub part_passed : (s : List ℕ) (place : ℕ) {n i : ℕ} → place + n ≤ length s → length (take n (drop place s)) ≤ i → n ≤ i
+part_passed s place {n} room h = omega (arith, length-take n (drop place s), length-drop place s)

@@ -1,17 +1,15 @@
 -- Runs of bytes below 128: counted by words of eight, and passed by the check.
 -- Assumes nothing.
-use Rattle.std.proofs.Common.{◌≡◌, ℕ, zero, suc, ◌+◌, ◌-◌, ◌*◌, ◌/◌, ◌%◌, ◌^◌, ◌<◌, ◌≤◌, Bool, true, false, cond, ◌&&◌, eqb, List, [], ◌∷◌, length, take, drop, get_or, refl, sym, ap, ◌∙◌, arith, bit_and, lit<, length-drop}
+use Rattle.std.proofs.Common.{◌≡◌, ℕ, zero, suc, ◌+◌, ◌-◌, ◌*◌, ◌/◌, ◌%◌, ◌<◌, ◌≤◌, Bool, true, false, cond, ◌&&◌, List, [], ◌∷◌, length, take, drop, get_or, ltb, refl, sym, ap, ◌∙◌, arith, length-drop}
 use Rattle.std.specs.List.{prefix_len, list_all}
 use Rattle.std.specs.Char.{is_ascii}
 use Rattle.std.specs.Simd.{first_chunks}
 use Rattle.std.specs.Int.{w64, from_le_bytes}
-use Rattle.std.proofs.lemmas.Bool.Decides.{nat_tests}
-use Rattle.std.proofs.lemmas.Nat.Bits.{and_pow}
 use Rattle.std.proofs.Math.Nat.{div-mul-le_self, mul_comm}
+use Rattle.std.proofs.Math.Bool.{and_assoc, and-true}
 use Rattle.std.proofs.lemmas.List.Sums.{prefix_len-le-length, prefix_len_passes, prefix_len_stops, prefix_len-drop_yes}
 use Rattle.std.proofs.lemmas.Slice.{between_to_end}
 use Rattle.std.proofs.lemmas.Bool.{true≢false}
-use lib.Bits.{and_block}
 use borrow.Author.Tests.{ltb-true}
 use Rattle.utf8.specs.declared.lead.Follow.{Follow}
 use Rattle.utf8.specs.Table.{UTF8-1, UTF8-2, UTF8-3, UTF8-4, UTF8-char}
@@ -89,43 +87,36 @@ module _ {A : Type 0} (p : A → Bool) (n : ℕ) (xs : List A) (chunks : List (L
       let e : length xs / n * n ≡ n * count = rw h (mul_comm (length xs / n) n) in
       by_chunks (m ∙ ap (prefix_len p) (r ∙ ap (λ (k : ℕ). drop k xs) e))
 
--- the number that bytes stand for, the first the lowest, and the number with the highest bit of each of so many bytes
-abbrev number : List ℕ → ℕ
-number [] = 0
-number (b ∷ bs) = number bs * 2 ^ 8 + b
-
-abbrev highs : ℕ → ℕ
-highs zero = 0
-highs (suc n) = highs n * 2 ^ 8 + 128
-
-none_high : (bs : List ℕ) → ((i : ℕ) → get_or bs i 0 < 256) → eqb (bit_and (number bs) (highs (length bs))) 0 ≡ list_all is_ascii bs
-none_high [] h = refl
-none_high (b ∷ bs) h =
-    let e : bit_and (number (b ∷ bs)) (highs (suc (length bs))) ≡ bit_and (number bs) (highs (length bs)) * 2 ^ 8 + bit_and b 128 = and_block 8 (number bs) (highs (length bs)) b 128 (h 0) (lit< tt) in
-    let f : bit_and b 128 ≡ b / 128 % 2 * 128 = and_pow b 7 in
-    let g : b < 256 = h 0 in
-    rw (e, f, ← none_high bs (λ i. h (suc i))) (both b (bit_and (number bs) (highs (length bs))) g)
-  where
-    both : (b x : ℕ) → b < 256 → eqb (x * 2 ^ 8 + b / 128 % 2 * 128) 0 ≡ is_ascii b && eqb x 0
-    both b x h = grind (arith, nat_tests)
-
-word_of : (bs : List ℕ) → length bs ≡ 8 → from_le_bytes w64 bs ≡ number bs
-word_of (a ∷ b ∷ c ∷ d ∷ e ∷ f ∷ g ∷ h ∷ []) l = omega arith
-word_of (a ∷ b ∷ c ∷ d ∷ e ∷ f ∷ g ∷ h ∷ i ∷ bs) l = absurd (omega arith)
-word_of [] l = absurd (omega arith)
-word_of (a ∷ []) l = absurd (omega arith)
-word_of (a ∷ b ∷ []) l = absurd (omega arith)
-word_of (a ∷ b ∷ c ∷ []) l = absurd (omega arith)
-word_of (a ∷ b ∷ c ∷ d ∷ []) l = absurd (omega arith)
-word_of (a ∷ b ∷ c ∷ d ∷ e ∷ []) l = absurd (omega arith)
-word_of (a ∷ b ∷ c ∷ d ∷ e ∷ f ∷ []) l = absurd (omega arith)
-word_of (a ∷ b ∷ c ∷ d ∷ e ∷ f ∷ g ∷ []) l = absurd (omega arith)
-
--- a word of eight bytes has none of their highest bits exactly if they are all below 128
-pub word_plain : (bs : List ℕ) → length bs ≡ 8 → ((i : ℕ) → get_or bs i 0 < 256) → eqb (bit_and (from_le_bytes w64 bs) 0x8080_8080_8080_8080) 0 ≡ list_all is_ascii bs
-word_plain bs l h =
-    let m : highs (length bs) ≡ 0x8080_8080_8080_8080 = ap highs l in
-    rw (word_of bs l, ← m) (none_high bs h)
+-- eight bytes are all below 128 exactly if the digits to base 256 of the number that they stand for are
+pub digits_plain : (bs : List ℕ) → length bs ≡ 8 → ((i : ℕ) → get_or bs i 0 < 256) → (n : ℕ) → n ≡ from_le_bytes w64 bs
+    → ((((((ltb (n % 256) 128 && ltb (n / 256 % 256) 128) && ltb (n / 65536 % 256) 128) && ltb (n / 16777216 % 256) 128) && ltb (n / 4294967296 % 256) 128) && ltb (n / 1099511627776 % 256) 128) && ltb (n / 281474976710656 % 256) 128) && ltb (n / 72057594037927936) 128 ≡ list_all is_ascii bs
+digits_plain (a ∷ b ∷ c ∷ d ∷ e ∷ f ∷ g ∷ h ∷ []) l u n is =
+    let ua : a < 256 = u 0 in
+    let ub : b < 256 = u 1 in
+    let uc : c < 256 = u 2 in
+    let ud : d < 256 = u 3 in
+    let ue : e < 256 = u 4 in
+    let uf : f < 256 = u 5 in
+    let ug : g < 256 = u 6 in
+    let uh : h < 256 = u 7 in
+    let da : n % 256 ≡ a = omega (arith, is) in
+    let db : n / 256 % 256 ≡ b = omega (arith, is) in
+    let dc : n / 65536 % 256 ≡ c = omega (arith, is) in
+    let dd : n / 16777216 % 256 ≡ d = omega (arith, is) in
+    let de : n / 4294967296 % 256 ≡ e = omega (arith, is) in
+    let df : n / 1099511627776 % 256 ≡ f = omega (arith, is) in
+    let dg : n / 281474976710656 % 256 ≡ g = omega (arith, is) in
+    let dh : n / 72057594037927936 ≡ h = omega (arith, is) in
+    rw (da, db, dc, dd, de, df, dg, dh) (simp (and_assoc, and-true) refl)
+digits_plain [] l u n is = absurd (omega arith)
+digits_plain (a ∷ []) l u n is = absurd (omega arith)
+digits_plain (a ∷ b ∷ []) l u n is = absurd (omega arith)
+digits_plain (a ∷ b ∷ c ∷ []) l u n is = absurd (omega arith)
+digits_plain (a ∷ b ∷ c ∷ d ∷ []) l u n is = absurd (omega arith)
+digits_plain (a ∷ b ∷ c ∷ d ∷ e ∷ []) l u n is = absurd (omega arith)
+digits_plain (a ∷ b ∷ c ∷ d ∷ e ∷ f ∷ []) l u n is = absurd (omega arith)
+digits_plain (a ∷ b ∷ c ∷ d ∷ e ∷ f ∷ g ∷ []) l u n is = absurd (omega arith)
+digits_plain (a ∷ b ∷ c ∷ d ∷ e ∷ f ∷ g ∷ h ∷ i ∷ bs) l u n is = absurd (omega arith)
 
 -- a byte below 128 is a sequence by itself
 alone : (s : List ℕ) (place : ℕ) → place < length s → get_or s place 0 < 128 → sequence_length UTF8-char (drop place s) ≡ 1

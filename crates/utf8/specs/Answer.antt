@@ -1,6 +1,5 @@
 -- Document 01's number for each answer of the check, and what it carries.
 -- Assumes nothing.
-use Rattle.std.specs.Prelude.{ℕ, Option, Some, None}
 use Rattle.types.specs.Refusal.{amount}
 use Rattle.types.specs.Answer.{Outcome, passed, stopped}
 use Rattle.utf8.specs.Check.{Verdict, good, bad_at}
@@ -9,8 +8,3 @@ use Rattle.utf8.specs.Check.{Verdict, good, bad_at}
 abbrev pub text_outcome : Verdict → Outcome
 text_outcome good = passed
 text_outcome (bad_at place) = stopped 10 (amount place)
-
--- the check's answer, by the first bad place that there may be
-abbrev pub verdict_of : Option ℕ → Verdict
-verdict_of None = good
-verdict_of (Some place) = bad_at place

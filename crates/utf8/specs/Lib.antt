@@ -3,3 +3,4 @@ pub mod Text
 pub mod Check
 pub mod Answer
 pub mod Lead
+pub mod Place

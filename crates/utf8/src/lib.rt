@@ -4,7 +4,8 @@
 ghost use Rattle.std.specs.Prelude.{◌≡◌};
 ghost use Rattle.types.specs.Answer.{paper_outcome};
 ghost use Rattle.utf8.specs.Check.{check_of};
-ghost use Rattle.utf8.specs.Answer.{text_outcome, verdict_of};
+ghost use Rattle.utf8.specs.Answer.{text_outcome};
+ghost use Rattle.utf8.specs.Place.{verdict_of};
 
 mod lead;
 mod plain;
@@ -38,20 +39,20 @@ fn bad_place(text: &[u8]) -> Option<usize>
         let Some(Follow { count, low, high }) = lead::lead_of(first) else {
             break;
         };
-        let rest = &text[place + 1..];
-        if rest.len() < count {
+        if text.len() - place <= count {
             break;
         }
+        let next = place + 1 + count;
         let mut lowest = low;
         let mut highest = high;
-        for byte in &rest[..count] {
+        for byte in &text[place + 1..next] {
             if *byte < lowest || highest < *byte {
                 break 'sequences;
             }
             lowest = 0x80;
             highest = 0xBF;
         }
-        place += 1 + count;
+        place = next;
     }
     if place < text.len() {
         Some(place)

@@ -3,9 +3,6 @@ ghost use Rattle.std.specs.Prelude.{◌≡◌, ◌≤◌, length};
 ghost use Rattle.std.specs.List.{prefix_len, list_all};
 ghost use Rattle.std.specs.Char.{is_ascii};
 
-// The highest bit of each of eight bytes.
-const HIGH_BITS: u64 = 0x8080_8080_8080_8080;
-
 // How many bytes below 128 the text begins with: by words of eight, then those of the word that stops them, or behind all words.
 pub(crate) fn plain_length(text: &[u8]) -> usize
     ensures { result ≡ prefix_len is_ascii text.now }
@@ -51,5 +48,14 @@ fn are_plain(words: &[[u8; 8]; 4]) -> bool
 fn is_plain(word: &[u8; 8]) -> bool
     ensures { result ≡ list_all is_ascii word.now }
 {
-    u64::from_le_bytes(*word) & HIGH_BITS == 0
+    // One number, whose digits to base 256 are the bytes: the compiler tests all eight by one mask.
+    let number = u64::from_le_bytes(*word);
+    (number % 256 < 128)
+        & (number / 256 % 256 < 128)
+        & (number / 65536 % 256 < 128)
+        & (number / 16777216 % 256 < 128)
+        & (number / 4294967296 % 256 < 128)
+        & (number / 1099511627776 % 256 < 128)
+        & (number / 281474976710656 % 256 < 128)
+        & (number / 72057594037927936 < 128)
 }

@@ -1,17 +1,17 @@
 -- `bad_place` meets its contract: before `place` there are whole sequences alone, so the answer on the text is the answer from `place` on;
 -- the inner loop has passed some of the bytes that are to follow, and leaves by label where one is wrong. Assumes nothing.
-use mathlib.Core.Path.{◌≡◌, refl, sym, ◌∙◌}
+use mathlib.Core.Path.{◌≡◌, refl, sym, ap, ◌∙◌}
 use mathlib.Core.Bool.{true, false}
-use Prim.Native.Nat.{suc, ◌+◌, ◌-◌, ◌<◌, ◌≤◌}
+use Prim.Native.Nat.{◌+◌, ◌-◌}
 use native.Mathlib.Omega.{arith}
-use lib.ListN.{length, drop, length-drop}
+use lib.ListN.{drop, length-drop}
 use Rattle.utf8.specs.Table.{UTF8-char}
 use Rattle.utf8.specs.Check.{begins, sequence_length, check_of}
 use Rattle.utf8.specs.Lead.{ranges}
 use Rattle.utf8.proofs.Places.{check_at, end_good, none_bad, sequence_leads}
-use Rattle.utf8.proofs.Following.{stray_begins_none, wrong_begins_none, right_begins, nothing_left, cut_wrong, byte_passed, low_wrong, high_wrong, part_at, part_length}
+use Rattle.utf8.proofs.Following.{stray_begins_none, wrong_begins_none, right_begins, nothing_left, cut_wrong, byte_passed, low_wrong, high_wrong, byte_of_part, part_passed}
 use Rattle.utf8.proofs.Runs.{run_ends, run_passed, goes_ahead}
-use Rattle.utf8.proofs.bad_place.Goals.{else-sequences-test, then-sequences-test+else-is_ascii+in_default, then-sequences-test+else-is_ascii+in-Some+then-rest-count, then-sequences-test+else-is_ascii+in-Some+else-rest-count+then-loop-byte-test+then-byte-lowest, then-byte-lowest-via-then-byte-lowest, then-byte-lowest-via-else-byte-lowest+then-highest-byte}
+use Rattle.utf8.proofs.bad_place.Goals.{else-sequences-test, then-sequences-test+else-is_ascii+in_default, then-sequences-test+else-is_ascii+in-Some+then-text-place, then-sequences-test+else-is_ascii+in-Some+else-text-place+then-loop-byte-test+then-byte-lowest, then-byte-lowest-via-then-byte-lowest, then-byte-lowest-via-else-byte-lowest+then-highest-byte}
 use Rattle.utf8.proofs.bad_place.Goals as goal
 
 pub sequences-init : goal.sequences-init
@@ -39,9 +39,7 @@ loop-byte-preserved c =
     let place = c.sequences.place in
     let f = c.in-Some.field-0 in
     let i = c.loop-byte in
-    let room : place + 1 + f.count ≤ length text = omega arith in
-    let l : i.byte-index < f.count = omega (arith, part_length text (place + 1) f.count room) in
-    let at = part_at text (place + 1) f.count i.byte-index l room in
+    let at = byte_of_part text (place + 1) c.loop-byte-test.true in
     let next : place + 1 + i.byte-index + 1 ≡ place + 1 + (i.byte-index + 1) = omega arith in
     let left : f.count - i.byte-index - 1 ≡ f.count - (i.byte-index + 1) = omega arith in
     i.invariant ∙ rw (← next, ← left) (byte_passed text (place + 1 + i.byte-index) (f.count - i.byte-index) i.lowest i.highest (omega arith) (omega arith) (omega arith) (omega arith))
@@ -52,11 +50,9 @@ sequences-preserved c =
     let place = c.sequences.place in
     let f = c.in-Some.field-0 in
     let i = c.loop-byte in
-    let room : place + 1 + f.count ≤ length text = omega arith in
-    let none : f.count - i.byte-index ≡ 0 = omega (arith, part_length text (place + 1) f.count room) in
+    let none : f.count - i.byte-index ≡ 0 = omega (arith, part_passed text (place + 1) (omega arith) c.loop-byte-test.false) in
     let all : begins (ranges f.count f.low f.high) (drop (place + 1) text) ≡ true = i.invariant ∙ nothing_left text (f.count - i.byte-index) i.lowest i.highest (place + 1 + i.byte-index) none in
-    let after : place + suc f.count ≡ place + (1 + f.count) = omega arith in
-    (omega arith, c.sequences.invariant.1 ∙ rw after at (sequence_leads text place f.count (right_begins text place c.sequences-test.true f c.in-Some.ensures all)))
+    (omega arith, c.sequences.invariant.1 ∙ sequence_leads text place f.count (right_begins text place c.sequences-test.true f c.in-Some.ensures all) ∙ ap (check_at text) (omega arith))
 
 pub returns-then-place-text : goal.returns-then-place-text
 returns-then-place-text c =
@@ -67,13 +63,11 @@ returns-then-place-text c =
     elim c.sequences-test.branch [
       | else-sequences-test w ↦ absurd (omega arith)
       | then-sequences-test+else-is_ascii+in_default w ↦ stray_begins_none text place h w.in_default.ensures
-      | then-sequences-test+else-is_ascii+in-Some+then-rest-count w ↦ let f = w.in-Some.field-0 in wrong_begins_none text place h f w.in-Some.ensures (cut_wrong f.count f.low f.high (drop (place + 1) text) (omega (arith, length-drop (place + 1) text)))
-      | then-sequences-test+else-is_ascii+in-Some+else-rest-count+then-loop-byte-test+then-byte-lowest w ↦
+      | then-sequences-test+else-is_ascii+in-Some+then-text-place w ↦ let f = w.in-Some.field-0 in wrong_begins_none text place h f w.in-Some.ensures (cut_wrong f.count f.low f.high (drop (place + 1) text) (omega (arith, length-drop (place + 1) text)))
+      | then-sequences-test+else-is_ascii+in-Some+else-text-place+then-loop-byte-test+then-byte-lowest w ↦
           let f = w.in-Some.field-0 in
           let i = w.loop-byte in
-          let room : place + 1 + f.count ≤ length text = omega arith in
-          let l : i.byte-index < f.count = omega (arith, part_length text (place + 1) f.count room) in
-          let at = part_at text (place + 1) f.count i.byte-index l room in
+          let at = byte_of_part text (place + 1) w.loop-byte-test.true in
           let wrong : begins (ranges (f.count - i.byte-index) i.lowest i.highest) (drop (place + 1 + i.byte-index) text) ≡ false =
           elim w.then-byte-lowest.branch [
             | then-byte-lowest-via-then-byte-lowest w' ↦ low_wrong text (place + 1 + i.byte-index) (f.count - i.byte-index) i.lowest i.highest (omega arith) (omega arith) (omega arith)

@@ -1,8 +1,8 @@
--- `plain::is_plain` meets its contract: bytes in one number are its digits to base 256, each tested by its own bit.
+-- `plain::is_plain` meets its contract: the digits to base 256 of the number that the bytes stand for are the bytes.
 -- Assumes nothing.
-use Rattle.std.proofs.Common.{ℕ, eqb, bit_and, ap, ◌∙◌, arith, rules}
-use Rattle.utf8.proofs.Runs.{word_plain}
+use Rattle.std.proofs.Common.{arith, rules}
+use Rattle.utf8.proofs.Runs.{digits_plain}
 use Rattle.utf8.proofs.plain.is_plain.Goals as goal
 
 pub returns : goal.returns
-returns c = ap (λ (w : ℕ). eqb (bit_and w 0x8080_8080_8080_8080) 0) c.from_le_bytes.ensures ∙ word_plain c.args.word.now (omega arith) (search rules)
+returns c = digits_plain c.args.word.now (omega arith) (search rules) c.from_le_bytes-number.result c.from_le_bytes-number.ensures
