@@ -42,11 +42,11 @@ onward_moves n unclosed xs place e =
 
 -- what the whole scan answers, with k tags of the allowance read
 module _ (n start allowance k unclosed : ℕ) (xs : List ℕ) (place : ℕ) {whole : Counted} (is : whole ≡ scan_from (allowance - k) n start k unclosed xs place) where
-  -- is 14 where the allowance is spent
-  pub spent : k ≡ allowance → counted (refused 14 (amount allowance)) allowance ≡ whole
+  -- is 14 where the allowance is spent, for any two numbers that are the allowance: one that 14 carries, one that is the count
+  pub spent : k ≡ allowance → {carried tags : ℕ} → carried ≡ allowance → tags ≡ allowance → counted (refused 14 (amount carried)) tags ≡ whole
   unfolding scan_from
-  spent e =
-      ap (λ (j : ℕ). counted (refused 14 (amount j)) j) (sym e)
+  spent e {carried} {tags} c t =
+      (λ i. counted (refused 14 (amount ((c ∙ sym e) i))) ((t ∙ sym e) i))
       ∙ sym (is ∙ ap (λ (f : ℕ). scan_from f n start k unclosed xs place) (let z : allowance - k ≡ 0 = omega arith in z))
 
   -- and else what the next step leads to

@@ -6,12 +6,12 @@ use Rattle.bodies.proofs.Turns.{spent, turned, onward_moves}
 use Rattle.bodies.proofs.scan.scan.Goals as goal
 
 pub returns-in-Err : goal.returns-in-Err
-returns-in-Err c = turned _ _ _ _ _ _ _ c.loop-tags.invariant.same c.loop-tags-test.true (sym c.in-Err.ensures)
+returns-in-Err c = turned _ _ _ _ _ _ _ c.loop-tags.invariant.same (omega arith) (sym c.in-Err.ensures)
 
 pub returns-in-Ok-Closed : goal.returns-in-Ok-Closed
 returns-in-Ok-Closed c =
     let e = rw c.in-Ok-Closed.field-0-is at c.in-Ok-Closed.ensures in
-    turned _ _ _ _ _ _ _ c.loop-tags.invariant.same c.loop-tags-test.true (sym e)
+    turned _ _ _ _ _ _ _ c.loop-tags.invariant.same (omega arith) (sym e)
 
 pub loop-tags-preserved : goal.loop-tags-preserved
 loop-tags-preserved c =
@@ -20,8 +20,8 @@ loop-tags-preserved c =
     record {
       few = omega (arith, moves);
       ahead = omega (arith, moves);
-      same = sym (turned _ _ _ _ _ _ _ c.loop-tags.invariant.same c.loop-tags-test.true (sym e));
+      same = sym (turned _ _ _ _ _ _ _ c.loop-tags.invariant.same (omega arith) (sym e));
     }
 
 pub returns : goal.returns
-returns c = spent _ _ _ _ _ _ _ c.loop-tags.invariant.same (omega arith)
+returns c = spent _ _ _ _ _ _ _ c.loop-tags.invariant.same (omega arith) (omega arith) (omega arith)
